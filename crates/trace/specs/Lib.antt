@@ -1,0 +1,5 @@
+pub mod Items
+pub mod Refusals
+pub mod Next
+pub mod Text
+pub mod Records
