@@ -1,0 +1,3 @@
+pub fn placeholder() -> u8 {
+    0
+}

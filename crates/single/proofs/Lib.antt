@@ -1,0 +1,5 @@
+pub mod Padded
+pub mod Apart
+pub mod Rows
+pub mod Stands
+pub mod Worlds

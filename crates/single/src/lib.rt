@@ -1,0 +1,29 @@
+use trace::Block;
+use trace::Refusal;
+
+pub mod cache;
+
+// A frame of a cache: a block, or nothing yet.
+pub type Frame = Option<Block>;
+
+#[derive(Clone, Copy)]
+pub struct Settings {
+    pub processors: u32,
+    pub shift: u32,
+    pub level: u32,
+    pub ways: u32,
+}
+
+// What is counted of one processor's cache.
+#[derive(Clone, Copy)]
+pub struct Tallies {
+    pub references: u32,
+    pub hits: u32,
+    pub drops: u32,
+}
+
+// A refused set-up hands the map back.
+pub struct Refused<M> {
+    pub map: M,
+    pub refusal: Refusal,
+}
