@@ -1,1 +1,5 @@
+pub mod Filling
+pub mod Fronts
+pub mod Closing
+pub mod Seeking
 pub mod Portions

@@ -3,3 +3,4 @@ pub mod Apart
 pub mod Rows
 pub mod Stands
 pub mod Worlds
+pub mod Frames

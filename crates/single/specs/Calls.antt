@@ -10,7 +10,7 @@ use Rattle.std.specs.declared.result.Result.{Result}
 use Rattle.std.specs.declared.result.Result.the-variants.{Ok, Err}
 use Rattle.places.specs.Parts.{part, put, start, more}
 use Rattle.setmap.specs.Mapping.{Mapping, offered}
-use Rattle.trace.specs.Items.{writes, block-of, number-of}
+use Rattle.trace.specs.Items.{same, writes, block-of, number-of}
 use Rattle.trace.specs.Refusals.{Case, first-given, unless-refused, outside}
 use Rattle.trace.specs.declared.Block.{Block}
 use Rattle.trace.specs.declared.Reference.{Reference}
@@ -24,6 +24,9 @@ use Rattle.single.specs.declared.Tallies.{Tallies}
 pub record Tables : Type 0 where
   pub frames : List (Option Block)
   pub counters : List ℕ
+
+abbrev pub tables-of : List (Option Block) → List ℕ → Tables
+tables-of fs cs = record { frames = fs; counters = cs }
 
 -- ---- the layout of the tables
 
@@ -60,6 +63,14 @@ abbrev pub list-of : List (Option Block) → List Block
 list-of [] = []
 list-of (None ∷ fs) = []
 list-of (Some b ∷ fs) = b ∷ list-of fs
+
+abbrev pub vacant : Option Block → Bool
+vacant None = true
+vacant (Some b) = false
+
+abbrev pub holds : Block → Option Block → Bool
+holds q None = false
+holds q (Some b) = same b q
 
 -- The frames of a set whose list has become bs: places that the list gave up are empty, and those past it keep.
 abbrev pub relisted : List Block → List (Option Block) → List (Option Block)

@@ -2,10 +2,17 @@ use trace::Block;
 use trace::Refusal;
 
 pub mod cache;
+//mod layout;
+//mod limits;
+mod lists;
+//mod questions;
+//mod referring;
+//mod starting;
 
-// A frame of a cache: a block, or nothing yet.
+// A frame of a cache: a block, or nothing.
 pub type Frame = Option<Block>;
 
+// What a single cache is set up with; docs/RULES.md has the limits.
 #[derive(Clone, Copy)]
 pub struct Settings {
     pub processors: u32,
