@@ -6,7 +6,8 @@ use Prim.Native.Nat.{ℕ, zero, suc, _+_, _-_, _*_, _^_, _≤_, _<_, min}
 use native.Mathlib.Omega.{arith}
 use lib.ListN.{length, take, drop, getD, set, length-drop, length-append, length-set}
 use lib.Seq.{take-set-lt}
-use Rattle.std.proofs.shelf.Lists.{drop-set-add, drop-set-lt, take-set-le, take-take, drop-take, drop-at, take-at, drop-append-le, take-append-le, length-take-le, getD-take, getD-drop, getD-set-same, getD-set-other}
+use borrow.Rule.Slice.PartMut.{putMid}
+use Rattle.std.proofs.shelf.Lists.{drop-drop, drop-set-add, drop-set-lt, take-set-le, take-take, drop-take, drop-at, take-at, drop-append-le, take-append-le, length-take-le, getD-take, getD-drop, getD-set-same, getD-set-other}
 use Rattle.std.proofs.shelf.Parts.{drop-append-drop}
 use Rattle.std.proofs.shelf.Tests.{cases-lt}
 use Rattle.places.specs.Parts.{part, put, start, more}
@@ -99,3 +100,9 @@ more-at x xs l f =
 
 pub more-out : (x y : ℕ) (xs : List ℕ) → (y ≡ x → ⊥) → getD (more x xs) y 0 ≡ getD xs y 0
 more-out x y xs n = getD-set-other xs x y (min (getD xs x 0 + 1) (2 ^ 32 - 1)) 0 n
+
+-- a part of a slice after a change to it, as the checker has it
+pub part-is : {X : Type 0} (a n k : ℕ) (f : List X → List X) (zs ys : List X) → k ≡ n → ys ≡ f (take k (drop a zs)) → putMid a k zs ys ≡ put a n (f (part a n zs)) zs
+part-is {X} a n k f zs ys e g =
+    let d : drop k (drop a zs) ≡ drop (a + n) zs = drop-drop k a zs ∙ ap (λ (i : ℕ). drop (a + i) zs) e in
+    ap (λ (vs : List X). take a zs ++ (ys ++ vs)) d ∙ ap (λ (vs : List X). take a zs ++ (vs ++ drop (a + n) zs)) (g ∙ ap (λ (i : ℕ). f (take i (drop a zs))) e)

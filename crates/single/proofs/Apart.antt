@@ -15,10 +15,7 @@ use Rattle.setmap.specs.Mapping.{Mapping}
 use Rattle.trace.specs.declared.Block.{Block}
 use Rattle.single.specs.declared.Settings.{Settings}
 use Rattle.single.specs.Calls.{Tables, level-in, cache-frames, frames-needed, set-start, short}
-
-pub record Long (m : Mapping) (s : Settings) (t : Tables) : Type 0 where
-  pub frames : frames-needed m s ≤ length (t .frames)
-  pub counters : s .processors * 3 ≤ length (t .counters)
+use Rattle.single.specs.Limits.{Long}
 
 pub long : (m : Mapping) (s : Settings) (t : Tables) → short m s t ≡ false → Long m s t
 long m s t e =

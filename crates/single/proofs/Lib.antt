@@ -4,3 +4,4 @@ pub mod Rows
 pub mod Stands
 pub mod Worlds
 pub mod Frames
+pub mod Steps

@@ -20,7 +20,8 @@ use Rattle.caches.proofs.Tallies.{tally-short}
 use Rattle.single.specs.declared.Settings.{Settings}
 use Rattle.single.specs.Calls.{Tables, level-in, set-of, set-start, references-at, hits-at, drops-at, list-of, relisted, own-reference, others-write-to}
 use Rattle.single.proofs.Padded.{padded, list-padded, length-padded, relisted-padded}
-use Rattle.single.proofs.Apart.{Long, Alike, put-there, put-elsewhere, put-length, more-if-length, more-if-at, more-if-out, counters-apart}
+use Rattle.single.specs.Limits.{Long}
+use Rattle.single.proofs.Apart.{Alike, put-there, put-elsewhere, put-length, more-if-length, more-if-at, more-if-out, counters-apart}
 
 -- every set's frames hold its list, and the counters the three figures
 pub record Row (m : Mapping) (s : Settings) (p : ℕ) (h : History) (t : Tables) : Type 0 where

@@ -19,7 +19,8 @@ use Rattle.caches.specs.Caches.{Access, History, own}
 use Rattle.single.specs.declared.Settings.{Settings}
 use Rattle.single.specs.Calls.{Tables, level-in, set-of, set-start, frames-needed, references-at, cleared, own-reference, others-write-to, others-write-all}
 use Rattle.single.specs.Runs.{Fronts, front, behind}
-use Rattle.single.proofs.Apart.{Long, Alike, alike-trans, long-alike, set-in}
+use Rattle.single.specs.Limits.{Long}
+use Rattle.single.proofs.Apart.{Alike, alike-trans, long-alike, set-in}
 use Rattle.single.proofs.Rows.{Row, Kept, row-kept, row-own, own-kept, own-alike, row-write, write-kept, write-alike, row-read}
 
 pub record Stands (m : Mapping) (s : Settings) (h : History) (accepted : ℕ) (t : Tables) : Type 0 where

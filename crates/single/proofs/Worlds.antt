@@ -22,7 +22,8 @@ use Rattle.single.specs.declared.Settings.{Settings}
 use Rattle.single.specs.declared.Tallies.{Tallies}
 use Rattle.single.specs.Calls.{Tables, level-in, set-of, references-at, hits-at, drops-at, short, unlimited, set-up-refusal, reference-refusal, question-refusal, cleared, outcome, referenced, applied, tallied}
 use Rattle.single.specs.Runs.{Fronts, front, behind, Call, referring, asking, Said, of-reference, of-question, World, access, remembered, after-set-up, after-call, step, run, tallies, As-cache, As-separate}
-use Rattle.single.proofs.Apart.{Long, long, long-alike}
+use Rattle.single.specs.Limits.{Long}
+use Rattle.single.proofs.Apart.{long, long-alike}
 use Rattle.single.proofs.Rows.{Row}
 use Rattle.single.proofs.Stands.{Stands, applied-stands, stands-front, stands-behind, behind-front, stands-cleared}
 

@@ -2,12 +2,12 @@ use trace::Block;
 use trace::Refusal;
 
 pub mod cache;
-//mod layout;
-//mod limits;
+mod layout;
+mod limits;
 mod lists;
-//mod questions;
-//mod referring;
-//mod starting;
+mod questions;
+mod referring;
+mod starting;
 
 // A frame of a cache: a block, or nothing.
 pub type Frame = Option<Block>;
