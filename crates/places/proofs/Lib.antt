@@ -1,5 +1,5 @@
-pub mod Filling
+pub mod Closes
+pub mod Fills
 pub mod Fronts
-pub mod Closing
-pub mod Seeking
+pub mod Places
 pub mod Portions

@@ -7,12 +7,12 @@ use lib.Count.{trailingZeros}
 use lib.Pow.{pow-pos}
 use Rattle.std.proofs.shelf.Bits.{mod-below, pow-below}
 use Rattle.setmap.specs.Mapping.{Lawful, shared}
-use Rattle.setmap.specs.Maps.{by-bits, by-thirds}
+use Rattle.setmap.specs.Maps.{by-bits, by-thirds, bit-choice, thirds}
 use Rattle.setmap.proofs.Shares.{shared-is}
 use Rattle.setmap.proofs.Remainders.{Both, agree, lower, joined, bits-refine, thirds-refine}
 
-pub bits-lawful : (n : ℕ) → 1 ≤ n → n ≤ 30 → Lawful (by-bits n)
-bits-lawful n some few = record {
+pub by-bits-lawful : (n : ℕ) → 1 ≤ n → n ≤ 30 → Lawful (by-bits n)
+by-bits-lawful n some few = record {
   some-level = some;
   some-set = λ i l. pow-pos i;
   few-sets = λ i l. pow-below i 32 (omega arith);
@@ -20,8 +20,8 @@ bits-lawful n some few = record {
   refines = λ i a b l e. bits-refine i a b e;
 }
 
-pub thirds-lawful : (n : ℕ) → 1 ≤ n → n ≤ 30 → Lawful (by-thirds n)
-thirds-lawful n some few = record {
+pub by-thirds-lawful : (n : ℕ) → 1 ≤ n → n ≤ 30 → Lawful (by-thirds n)
+by-thirds-lawful n some few = record {
   some-level = some;
   some-set = λ i l. omega (arith, pow-pos i);
   few-sets = λ i l. omega (arith, pow-below i 30 (omega arith));
@@ -29,9 +29,15 @@ thirds-lawful n some few = record {
   refines = λ i a b l e. thirds-refine i a b e;
 }
 
+pub bit-choice-lawful : Lawful bit-choice
+bit-choice-lawful = by-bits-lawful 17 (omega arith) (omega arith)
+
+pub thirds-lawful : Lawful thirds
+thirds-lawful = by-thirds-lawful 16 (omega arith) (omega arith)
+
 module _ (a b last zeros t : ℕ) (few : last < 30) (count : zeros ≡ trailingZeros 32 (bitXor a b)) (least : t ≡ min zeros last) where
   pub bits-shared : t + 1 ≡ shared (by-bits (last + 1)) a b
-  bits-shared = shared-is (by-bits (last + 1)) (bits-lawful (last + 1) (omega arith) (omega arith)) a b (t + 1) (omega arith) exact
+  bits-shared = shared-is (by-bits (last + 1)) (by-bits-lawful (last + 1) (omega arith) (omega arith)) a b (t + 1) (omega arith) exact
     where
       exact : (i : ℕ) → i < last + 1 → Both (i < t + 1) (a % 2 ^ i ≡ b % 2 ^ i)
       exact i l =
@@ -39,7 +45,7 @@ module _ (a b last zeros t : ℕ) (few : last < 30) (count : zeros ≡ trailingZ
           ((λ h. agree 32 i a b q .0 (omega arith)), (λ s. omega (arith, agree 32 i a b q .1 s)))
 
   pub thirds-shared : a % 3 ≡ b % 3 → t + 1 ≡ shared (by-thirds (last + 1)) a b
-  thirds-shared m = shared-is (by-thirds (last + 1)) (thirds-lawful (last + 1) (omega arith) (omega arith)) a b (t + 1) (omega arith) exact
+  thirds-shared m = shared-is (by-thirds (last + 1)) (by-thirds-lawful (last + 1) (omega arith) (omega arith)) a b (t + 1) (omega arith) exact
     where
       exact : (i : ℕ) → i < last + 1 → Both (i < t + 1) (a % (3 * 2 ^ i) ≡ b % (3 * 2 ^ i))
       exact i l =

@@ -10,8 +10,9 @@ use Rattle.std.specs.declared.option.Option.{Option}
 use Rattle.std.specs.declared.option.Option.the-variants.{Some, None}
 use Rattle.std.proofs.shelf.Lists.{length-map, length-append, take-at, take-map, take-all, take-set, drop-set-lt, getD-set-same, append-assoc}
 use Rattle.std.proofs.shelf.Tests.{both-ways, cond-true, cond-false, lt-ltb}
-use Rattle.places.specs.Moves.{fronted, closed, place}
-use Rattle.places.proofs.Fronts.{inside}
+use Rattle.places.specs.Moves.{fronted, closed}
+use Rattle.places.specs.Place.{place}
+use Rattle.places.proofs.Fronts.{fronted-inside}
 use Rattle.trace.specs.Items.{same}
 use Rattle.trace.specs.declared.Block.{Block}
 use Rattle.trace.proofs.Blocks.{same-equal}
@@ -103,7 +104,7 @@ module _ (q : Block) where
     -- the frame that a new block takes
     new-front : (i : ℕ) → i < length fs → fronted i (set fs i (Some q)) ≡ Some q ∷ (take i fs ++ drop (i + 1) fs)
     new-front i l =
-        inside (set fs i (Some q)) i (Some q) (omega (arith, lib.ListN.length-set fs i (Some q))) (sym (getD-set-same fs i (Some q) (Some q) l))
+        fronted-inside (set fs i (Some q)) i (Some q) (omega (arith, lib.ListN.length-set fs i (Some q))) (sym (getD-set-same fs i (Some q) (Some q) l))
         ∙ ap (λ xs. Some q ∷ (xs ++ drop (i + 1) (set fs i (Some q)))) (take-set fs i (Some q))
         ∙ ap (λ xs. Some q ∷ (take i fs ++ xs)) (drop-set-lt (i + 1) fs i (Some q) (omega arith))
 

@@ -18,6 +18,7 @@ use Rattle.trace.specs.declared.Refusal.{Refusal}
 use Rattle.trace.specs.declared.Refusal.the-variants.{Setting, Level, ShortTable, Processor, Blocks, Entries, References, Question, Form, Size, CutOff, Input}
 use Rattle.caches.specs.Caches.{among, without, used}
 use Rattle.single.specs.declared.Settings.{Settings}
+use Rattle.single.specs.declared.TableSizes.{TableSizes}
 use Rattle.single.specs.declared.Tallies.{Tallies}
 
 -- the two tables that a call is passed; a frame holds a block or nothing
@@ -117,6 +118,13 @@ reference-refusal m s accepted t p =
 
 abbrev pub question-refusal : Mapping → Settings → Tables → ℕ → Option Refusal
 question-refusal m s t p = first-given case-of (ShortTable ∷ (Processor ∷ [])) (record { map = m; settings = s; tables = t; accepted = 0; processor = p })
+
+-- the tables that the settings need, or why a set-up would refuse them whatever the tables
+abbrev pub settings-refusal : Mapping → Settings → Option Refusal
+settings-refusal m s = first-given case-of (Setting ∷ (Level ∷ [])) (record { map = m; settings = s; tables = tables-of [] []; accepted = 0; processor = 0 })
+
+abbrev pub sized : Mapping → Settings → Result TableSizes Refusal
+sized m s = unless-refused (settings-refusal m s) (record { frames = frames-needed m s; counters = s .processors * 3 })
 
 -- ---- the calls
 

@@ -1,6 +1,6 @@
 ghost use Prim.Native.Nat.{_≤_};
-use setmap::SetMap;
 use super::Settings;
+use setmap::SetMap;
 
 // One level and one number of ways of the separate caches, by itself. Its frames and counters are lent to each call.
 pub struct SingleCache<M: SetMap> {

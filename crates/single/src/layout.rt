@@ -3,10 +3,10 @@ ghost use Prim.Native.Nat.{_+_, _^_, _≤_};
 ghost use Rattle.places.specs.Parts.{start};
 ghost use Rattle.single.specs.Calls.{tables-of, cache-frames, frames-needed, set-of, set-start, short};
 ghost use Rattle.single.specs.Limits.{Limited};
-use setmap::SetMap;
-use trace::Block;
 use super::Frame;
 use super::Settings;
+use setmap::SetMap;
+use trace::Block;
 
 // How many frames one processor has.
 pub(super) fn cache_frames<M: SetMap>(map: &M, s: Settings) -> usize
@@ -24,7 +24,8 @@ pub(super) fn set_start<M: SetMap>(map: &M, s: Settings, p: u32, block: Block) -
     ensures within { λ r. ⌜ r + s .ways ≤ frames-needed (meaning (now (map .entry))) s ⌝ }
     ensures small { λ r. ⌜ r ≤ 2 ^ 43 ⌝ }
 {
-    (p as usize - 1) * cache_frames(map, s) + map.set(s.level, block.number) as usize * s.ways as usize
+    (p as usize - 1) * cache_frames(map, s)
+        + map.set(s.level, block.number) as usize * s.ways as usize
 }
 
 // Where processor p's counters begin: references, hits, drops.

@@ -1,13 +1,16 @@
 use trace::Block;
 use trace::Refusal;
 
-pub mod cache;
+mod cache;
 mod layout;
 mod limits;
 mod lists;
 mod questions;
 mod referring;
 mod starting;
+
+pub use cache::SingleCache;
+pub use starting::table_sizes;
 
 // A frame of a cache: a block, or nothing.
 pub type Frame = Option<Block>;
@@ -27,6 +30,13 @@ pub struct Tallies {
     pub references: u32,
     pub hits: u32,
     pub drops: u32,
+}
+
+// How many elements the two tables need at least.
+#[derive(Clone, Copy)]
+pub struct TableSizes {
+    pub frames: usize,
+    pub counters: usize,
 }
 
 // A refused set-up hands the map back.

@@ -3,12 +3,12 @@ ghost use Prim.Native.Nat.{_<_};
 ghost use lib.ListN.{length};
 ghost use Rattle.caches.specs.Caches.{among, without, used};
 ghost use Rattle.single.specs.Calls.{list-of, relisted, vacant, holds};
+use super::Frame;
 use places::Test;
 use places::bring_to_front;
 use places::close_up;
 use places::seek;
 use trace::Block;
-use super::Frame;
 
 // A frame with nothing in it.
 #[derive(Clone, Copy)]

@@ -1,12 +1,12 @@
 ghost use mathlib.Core.Path.{_≡_};
 ghost use Rattle.single.specs.Calls.{tables-of, tallied};
-use setmap::SetMap;
-use trace::Refusal;
 use super::Frame;
 use super::Tallies;
 use super::cache::SingleCache;
 use super::layout::counters_start;
 use super::layout::is_short;
+use setmap::SetMap;
+use trace::Refusal;
 
 impl<M: SetMap> SingleCache<M> {
     // What has been counted of processor p's cache.
@@ -20,14 +20,22 @@ impl<M: SetMap> SingleCache<M> {
             return Err(Refusal::Processor);
         }
         let first = counters_start(p);
-        Ok(Tallies { references: counters[first], hits: counters[first + 1], drops: counters[first + 2] })
+        Ok(Tallies {
+            references: counters[first],
+            hits: counters[first + 1],
+            drops: counters[first + 2],
+        })
     }
 
     // Ends the cache, and hands its map back.
     pub fn end(self) -> M
         ensures { λ r. ⌜ r ≡ self .map ⌝ }
     {
-        let SingleCache { map, settings: _, accepted: _ } = self;
+        let SingleCache {
+            map,
+            settings: _,
+            accepted: _,
+        } = self;
         map
     }
 }

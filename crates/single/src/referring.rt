@@ -2,12 +2,6 @@ ghost use mathlib.Core.Path.{_≡_};
 ghost use Prim.Native.Nat.{_≤_};
 ghost use Rattle.single.specs.Calls.{Outcome, tables-of, own-reference, others-write-to, others-write-all, applied, reference-refusal, referenced};
 ghost use Rattle.single.specs.Limits.{Limited, Long};
-use places::bump;
-use setmap::SetMap;
-use trace::Block;
-use trace::Operation;
-use trace::Reference;
-use trace::Refusal;
 use super::Frame;
 use super::Settings;
 use super::cache::SingleCache;
@@ -16,9 +10,22 @@ use super::layout::is_short;
 use super::layout::set_start;
 use super::lists::lose;
 use super::lists::touch;
+use places::bump;
+use setmap::SetMap;
+use trace::Block;
+use trace::Operation;
+use trace::Reference;
+use trace::Refusal;
 
 // Processor p's own reference.
-fn refer<M: SetMap>(map: &M, s: Settings, p: u32, block: Block, frames: &mut [Frame], counters: &mut [u32])
+fn refer<M: SetMap>(
+    map: &M,
+    s: Settings,
+    p: u32,
+    block: Block,
+    frames: &mut [Frame],
+    counters: &mut [u32],
+)
     requires { ⌜ Limited s ⌝ ∗ ⌜ 1 ≤ p ⌝ ∗ ⌜ p ≤ s .processors ⌝ ∗ ⌜ Long (meaning (now map)) s (tables-of (now frames) (now counters)) ⌝ }
     ensures { λ _. ⌜ tables-of (now (frames .exit)) (now (counters .exit)) ≡ own-reference (meaning (now (map .entry))) s p block (tables-of (now (frames .entry)) (now (counters .entry))) ⌝ }
 {
@@ -32,7 +39,14 @@ fn refer<M: SetMap>(map: &M, s: Settings, p: u32, block: Block, frames: &mut [Fr
 }
 
 // What another's write does to processor p.
-fn write_to<M: SetMap>(map: &M, s: Settings, p: u32, block: Block, frames: &mut [Frame], counters: &mut [u32])
+fn write_to<M: SetMap>(
+    map: &M,
+    s: Settings,
+    p: u32,
+    block: Block,
+    frames: &mut [Frame],
+    counters: &mut [u32],
+)
     requires { ⌜ Limited s ⌝ ∗ ⌜ 1 ≤ p ⌝ ∗ ⌜ p ≤ s .processors ⌝ ∗ ⌜ Long (meaning (now map)) s (tables-of (now frames) (now counters)) ⌝ }
     ensures { λ _. ⌜ tables-of (now (frames .exit)) (now (counters .exit)) ≡ others-write-to (meaning (now (map .entry))) s p block (tables-of (now (frames .entry)) (now (counters .entry))) ⌝ }
 {
@@ -43,7 +57,14 @@ fn write_to<M: SetMap>(map: &M, s: Settings, p: u32, block: Block, frames: &mut 
 }
 
 // A write by processor w, put to all the others.
-fn write_all<M: SetMap>(map: &M, s: Settings, w: u32, block: Block, frames: &mut [Frame], counters: &mut [u32])
+fn write_all<M: SetMap>(
+    map: &M,
+    s: Settings,
+    w: u32,
+    block: Block,
+    frames: &mut [Frame],
+    counters: &mut [u32],
+)
     requires { ⌜ Limited s ⌝ ∗ ⌜ Long (meaning (now map)) s (tables-of (now frames) (now counters)) ⌝ }
     ensures { λ _. ⌜ tables-of (now (frames .exit)) (now (counters .exit)) ≡ others-write-all (meaning (now (map .entry))) s w block (s .processors) (tables-of (now (frames .entry)) (now (counters .entry))) ⌝ }
 {
@@ -87,7 +108,12 @@ impl<M: SetMap> SingleCache<M> {
     }
 
     // A reference, which is accepted or leaves everything as it was.
-    pub fn reference(&mut self, r: Reference, frames: &mut [Frame], counters: &mut [u32]) -> Result<(), Refusal>
+    pub fn reference(
+        &mut self,
+        r: Reference,
+        frames: &mut [Frame],
+        counters: &mut [u32],
+    ) -> Result<(), Refusal>
         ensures answer { λ x. ⌜ x ≡ referenced (meaning (now (self .entry) .map)) (now (self .entry) .settings) (now (self .entry) .accepted) (tables-of (now (frames .entry)) (now (counters .entry))) r .answer ⌝ }
         ensures accepted { λ _. ⌜ now (self .exit) .accepted ≡ referenced (meaning (now (self .entry) .map)) (now (self .entry) .settings) (now (self .entry) .accepted) (tables-of (now (frames .entry)) (now (counters .entry))) r .accepted ⌝ }
         ensures tables { λ _. ⌜ tables-of (now (frames .exit)) (now (counters .exit)) ≡ referenced (meaning (now (self .entry) .map)) (now (self .entry) .settings) (now (self .entry) .accepted) (tables-of (now (frames .entry)) (now (counters .entry))) r .tables ⌝ }

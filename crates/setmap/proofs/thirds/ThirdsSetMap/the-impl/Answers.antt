@@ -1,6 +1,5 @@
-use native.Mathlib.Omega.{arith}
 use Rattle.setmap.proofs.Laws.{thirds-lawful}
 use Rattle.setmap.proofs.thirds.ThirdsSetMap.the-impl.Needs as need
 
 pub lawful-law : need.lawful-law
-lawful-law m = thirds-lawful 16 (omega arith) (omega arith)
+lawful-law m = thirds-lawful

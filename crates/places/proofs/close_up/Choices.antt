@@ -1,9 +1,0 @@
-use Prim.Native.Nat.{_+_}
-use mathlib.Core.Path.{_≡_}
-use mathlib.Core.List.{_++_}
-use lib.ListN.{take, drop}
-use Rattle.places.proofs.close_up.Given as given
-
--- those behind the element, up to i, have moved
-abbrev pub Inv-loop-i : given.InvT-loop-i
-Inv-loop-i g l = l .s ≡ take (l .at) (l .entry .s) ++ (drop (l .at + 1) (take (l .i + 1) (l .entry .s)) ++ drop (l .i) (l .entry .s))

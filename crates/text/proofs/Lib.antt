@@ -1,0 +1,4 @@
+pub mod Counting
+pub mod Items
+pub mod Numerals
+pub mod Seeking
