@@ -1,22 +1,17 @@
 -- Numerals, and a loop that reads their digits.
-use Prim.Native.Nat.{ℕ, suc, _+_, _-_, _*_, _<_, _≤_}
+use Prim.Native.Nat.{ℕ, _+_, _-_, _*_, _<_, _≤_}
 use mathlib.Core.Bool.{true, false, _&&_}
-use mathlib.Core.List.{List, [], _∷_}
-use mathlib.Core.Logic.{_⊎_, inl, inr}
-use mathlib.Core.Path.{_≡_, refl, sym, ap, _∙_}
-use native.Mathlib.Omega.{arith}
-use lib.Dec.{eqb}
+use mathlib.Core.List.{List}
+use mathlib.Core.Logic.{inl, inr}
+use mathlib.Core.Path.{_≡_, refl, sym, _∙_}
 use lib.ListN.{length, getD, drop}
 use Rattle.std.specs.shelf.Lists.{folded}
 use Rattle.std.proofs.shelf.Lists.{at-drop-more, at-drop-all}
-use Rattle.std.proofs.shelf.Tests.{ne-eqb, and-left, and-right, and-from, lt-leb, le-leb}
-use Rattle.trace.specs.Text.{isDigit, all-digits, in-form, digits-value}
+use Rattle.std.proofs.shelf.Tests.{cases-lt, and-left, and-right, and-from, lt-leb, le-leb}
+use Rattle.trace.specs.Text.{isDigit, all-digits, digits-value}
 
-pub not-low : (b : ℕ) → b < 48 → isDigit b ≡ false
-not-low b h = and-left _ _ (lt-leb 48 b h)
-
-pub not-high : (b : ℕ) → 57 < b → isDigit b ≡ false
-not-high b h = and-right _ _ (lt-leb b 57 h)
+pub not-digit : (b : ℕ) → (48 ≤ b → 57 < b) → isDigit b ≡ false
+not-digit b h = elim (cases-lt b 48) [ inl low ↦ and-left _ _ (lt-leb 48 b low) | inr high ↦ and-right _ _ (lt-leb b 57 (h high)) ]
 
 pub is-digit : (b : ℕ) → 48 ≤ b → b ≤ 57 → isDigit b ≡ true
 is-digit b low high = and-from _ _ (le-leb 48 b low) (le-leb b 57 high)

@@ -1,6 +1,7 @@
 ghost use mathlib.Core.Path.{_≡_};
 ghost use Rattle.text.specs.declared.faults.LineFault.the-variants.{Field};
-ghost use Rattle.text.specs.Told.{told};
+ghost use Rattle.text.specs.declared.faults.Wrong.the-variants.{Form, Size};
+ghost use Rattle.text.specs.Told.{refusal-of, told};
 use trace::Fault;
 use trace::Layer;
 use trace::Refusal;
@@ -19,6 +20,26 @@ pub struct FieldFault {
     pub wrong: Wrong,
 }
 
+impl FieldFault {
+    pub(crate) fn form(item: u64) -> FieldFault
+        ensures { λ r. ⌜ r ≡ record { item = item; wrong = Form } ⌝ }
+    {
+        FieldFault {
+            item,
+            wrong: Wrong::Form,
+        }
+    }
+
+    pub(crate) fn size(item: u64) -> FieldFault
+        ensures { λ r. ⌜ r ≡ record { item = item; wrong = Size } ⌝ }
+    {
+        FieldFault {
+            item,
+            wrong: Wrong::Size,
+        }
+    }
+}
+
 // A refused line: it has not three fields, a field is refused, or no line feed ends it.
 #[derive(Clone, Copy)]
 pub enum LineFault {
@@ -32,6 +53,18 @@ pub impl From<FieldFault> for LineFault as LineFaultFromField {
 
     fn from(e: FieldFault) -> LineFault {
         LineFault::Field(e)
+    }
+}
+
+// For a line that is no item of a trace.
+pub impl From<FieldFault> for Refusal as RefusalFromField {
+    ghost converts = { λ e r. r ≡ refusal-of (e .wrong) };
+
+    fn from(e: FieldFault) -> Refusal {
+        match e.wrong {
+            Wrong::Form => Refusal::Form,
+            Wrong::Size => Refusal::Size,
+        }
     }
 }
 

@@ -8,7 +8,6 @@ ghost use Rattle.text.specs.Told.{Refused};
 ghost use Rattle.text.specs.declared.faults.Wrong.the-variants.{Form};
 use super::cut::take_field;
 use super::faults::FieldFault;
-use super::faults::Wrong;
 use trace::Operation;
 
 // The value of digits, held at 2^32 from there on: above every limit it stays above.
@@ -19,10 +18,7 @@ fn read_digits(field: &[u8], item: u64) -> Result<u64, FieldFault>
     for b in field {
         match *b {
             b'0'..=b'9' => value = (value * 10 + u64::from(*b - b'0')).min(1 << 32),
-            _ => return Err(FieldFault {
-                item,
-                wrong: Wrong::Form,
-            }),
+            _ => return Err(FieldFault::form(item)),
         }
     }
     Ok(value)
@@ -33,19 +29,13 @@ pub fn read_number(field: &[u8], limit: u32, item: u64) -> Result<u32, FieldFaul
     ensures { λ r. ⌜ elim r [ Ok n ↦ number-field limit (now (field .entry)) ≡ Ok n | Err e ↦ Refused (number-field limit (now (field .entry))) item e ] ⌝ }
 {
     if let [] | [b'0', _, ..] = field {
-        return Err(FieldFault {
-            item,
-            wrong: Wrong::Form,
-        });
+        return Err(FieldFault::form(item));
     }
     let value = read_digits(field, item)?;
     if value <= u64::from(limit) {
         Ok(value as u32)
     } else {
-        Err(FieldFault {
-            item,
-            wrong: Wrong::Size,
-        })
+        Err(FieldFault::size(item))
     }
 }
 
@@ -54,19 +44,13 @@ pub fn read_operation(field: &[u8], item: u64) -> Result<Operation, FieldFault>
     ensures { λ r. ⌜ elim r [ Ok x ↦ operation-field (now (field .entry)) ≡ Ok x | Err e ↦ Refused (operation-field (now (field .entry))) item e ] ⌝ }
 {
     let [letter] = field else {
-        return Err(FieldFault {
-            item,
-            wrong: Wrong::Form,
-        });
+        return Err(FieldFault::form(item));
     };
     match char::from(*letter) {
         'r' => Ok(Operation::Read),
         'w' => Ok(Operation::Write),
         'f' => Ok(Operation::Fetch),
-        _ => Err(FieldFault {
-            item,
-            wrong: Wrong::Form,
-        }),
+        _ => Err(FieldFault::form(item)),
     }
 }
 

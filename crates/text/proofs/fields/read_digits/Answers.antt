@@ -1,19 +1,14 @@
 use Prim.Native.Nat.{_+_, _-_, _*_}
-use mathlib.Core.Path.{refl}
 use native.Mathlib.Omega.{arith}
 use lib.ListN.{getD}
-use Rattle.text.proofs.Numerals.{not-low, not-high, is-digit, digits-stop, digits-more, value-more, digits-all, value-all}
+use Rattle.text.proofs.Numerals.{not-digit, is-digit, digits-stop, digits-more, value-more, digits-all, value-all}
 use Rattle.text.proofs.fields.read_digits.Needs as need
 
 pub returns-in-rest : need.returns-in-rest
 returns-in-rest c =
     let i = c .loop-b .inv in
-    (digits-stop _ _ _ (i .2) (i .3) (c .loop-b-test .taken) (not-low (getD (c .args .field .now) (c .loop-b .b-index) 0) (omega arith)), refl)
-
-pub returns-in-rest·2 : need.returns-in-rest·2
-returns-in-rest·2 c =
-    let i = c .loop-b .inv in
-    (digits-stop _ _ _ (i .2) (i .3) (c .loop-b-test .taken) (not-high (getD (c .args .field .now) (c .loop-b .b-index) 0) (omega arith)), refl)
+    let b = getD (c .args .field .now) (c .loop-b .b-index) 0 in
+    (digits-stop _ _ _ (i .2) (i .3) (c .loop-b-test .taken) (not-digit b (λ low. omega arith)), c .form .ensures)
 
 pub loop-b-again : need.loop-b-again
 loop-b-again c =
