@@ -1,6 +1,7 @@
 use single::Settings;
 use single::Tallies;
 
+mod feeding;
 mod settings;
 
 // The set map that an input names.
@@ -29,4 +30,11 @@ pub struct RefusedLine {
 pub struct Row {
     pub processor: u32,
     pub tallies: Tallies,
+}
+
+// The report of a spot check: a refusal alone, or the refused lines and each processor's figures.
+#[derive(Drop)]
+pub enum Report {
+    Alone(RefusedLine),
+    Whole(Vec<RefusedLine>, Vec<Row>),
 }

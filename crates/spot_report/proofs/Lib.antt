@@ -1,0 +1,3 @@
+pub mod Feeds
+pub mod Underway
+pub mod Turns
