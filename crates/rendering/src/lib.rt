@@ -1,4 +1,6 @@
-ghost use mathlib.Core.List.{_++_};
+ghost use mathlib.Core.List.{List, _++_};
+ghost use Prim.Native.Nat.{ℕ};
+ghost use Rattle.std.specs.shelf.Lists.{joined};
 ghost use mathlib.Core.Path.{_≡_};
 ghost use denote.Ref.{now};
 ghost use Rattle.std.specs.Of.String.{string-bytes};
@@ -60,4 +62,22 @@ pub fn push_heading(out: &mut String, heading: &str) -> Result<(), AllocError>
     ensures { λ r. ⌜ made r (λ _. string-bytes (now (out .exit)) ≡ string-bytes (now (out .entry)) ++ heading-text (now (heading .entry))) ⌝ }
 {
     found_memory(writeln!(out, "{heading}"))
+}
+
+// What a report writes as a line.
+pub trait Line {
+    ghost text: { Self → List ℕ };
+
+    fn push(&self, out: &mut String) -> Result<(), AllocError>
+        ensures { λ r. ⌜ made r (λ _. string-bytes (now (out .exit)) ≡ string-bytes (now (out .entry)) ++ text (now (self .entry))) ⌝ };
+}
+
+// Lines one after another.
+pub fn push_lines<T: Line>(out: &mut String, lines: &[T]) -> Result<(), AllocError>
+    ensures { λ r. ⌜ made r (λ _. string-bytes (now (out .exit)) ≡ string-bytes (now (out .entry)) ++ joined text (now (lines .entry))) ⌝ }
+{
+    for line in lines {
+        line.push(out)?;
+    }
+    Ok(())
 }

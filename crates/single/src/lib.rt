@@ -40,6 +40,7 @@ pub struct TableSizes {
 }
 
 // A refused set-up hands the map back.
+#[derive(Drop)]
 pub struct Refused<M> {
     pub map: M,
     pub refusal: Refusal,

@@ -57,10 +57,10 @@ pub data Content : Type 0 where
 abbrev pub only : ℕ → Refusal → Content
 only line x = alone (refused-line line x)
 
-abbrev pub spotted : Chosen → List Item → Content
-spotted x items =
-    let read = reading (x .settings) 2 items [] in
-    whole (read .refused) (rows (mapping (x .map)) (x .settings) (read .history) (x .settings .processors))
+abbrev pub spotted-on : Mapping → Settings → List Item → Content
+spotted-on m s items =
+    let read = reading s 2 items [] in
+    whole (read .refused) (rows m s (read .history) (s .processors))
 
 abbrev pub unless-settings : Option Refusal → Content → Content
 unless-settings None c = c
@@ -68,7 +68,7 @@ unless-settings (Some x) c = only 1 x
 
 abbrev pub first-line : Parsed Chosen → List Item → Content
 first-line (Err x) items = only 1 x
-first-line (Ok x) items = unless-settings (settings-refusal (mapping (x .map)) (x .settings)) (spotted x items)
+first-line (Ok x) items = unless-settings (settings-refusal (mapping (x .map)) (x .settings)) (spotted-on (mapping (x .map)) (x .settings) items)
 
 -- The input by its lines: with nothing after line 1's line feed, the list ends in an empty piece.
 abbrev pub lines-content : List (List ℕ) → Content

@@ -1,8 +1,15 @@
 use single::Settings;
 use single::Tallies;
 
+mod checking;
 mod feeding;
+mod rendered;
+mod rows;
 mod settings;
+
+pub use checking::INPUT_LIMIT;
+pub use checking::spot_check;
+pub use rendered::render;
 
 // The set map that an input names.
 #[derive(Clone, Copy)]

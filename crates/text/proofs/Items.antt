@@ -1,5 +1,5 @@
 -- The items of a text, one line on.
-use Prim.Native.Nat.{ℕ, _<_}
+use Prim.Native.Nat.{ℕ, _+_, _≤_, _<_}
 use mathlib.Core.List.{List, [], _∷_}
 use mathlib.Core.Path.{_≡_, refl, ap, _∙_}
 use native.Mathlib.Omega.{arith}
@@ -8,7 +8,7 @@ use Rattle.std.specs.declared.option.Option.the-variants.{None}
 use Rattle.std.specs.declared.result.Result.the-variants.{Ok}
 use Rattle.trace.specs.Items.{bad}
 use Rattle.trace.specs.Next.{Given}
-use Rattle.trace.specs.Text.{pieces, line-of, item, line-items, text-items}
+use Rattle.trace.specs.Text.{onto-first, pieces, line-of, item, line-items, text-items}
 use Rattle.trace.specs.declared.Refusal.the-variants.{CutOff}
 use Rattle.text.proofs.Counting.{some-piece}
 
@@ -32,3 +32,23 @@ items-cut-off bs h e = ap line-items e ∙ last-item bs h
 pub at-end : (bs : List ℕ) (n : ℕ) → length bs ≡ 0 → Given (text-items bs) n (Ok None) (text-items bs) n
 at-end [] n e = (refl, refl, refl)
 at-end (b ∷ bs) n e = absurd (omega arith)
+
+-- each item takes a byte or more
+items-onto : (b : ℕ) (ls : List (List ℕ)) → length (line-items (onto-first b ls)) ≤ 1 + length (line-items ls)
+items-onto b [] = omega arith
+items-onto b ([] ∷ []) = omega arith
+items-onto b ((c ∷ cs) ∷ []) = omega arith
+items-onto b ([] ∷ (next ∷ ls)) = omega arith
+items-onto b ((c ∷ cs) ∷ (next ∷ ls)) = omega arith
+
+items-after : (ls : List (List ℕ)) → length (line-items ([] ∷ ls)) ≤ 1 + length (line-items ls)
+items-after [] = omega arith
+items-after (next ∷ ls) = omega arith
+
+pub few-items : (bs : List ℕ) → length (text-items bs) ≤ length bs
+few-items [] = omega arith
+few-items (b ∷ bs) =
+    let ih = few-items bs in
+    let x = items-onto b (pieces 10 bs) in
+    let y = items-after (pieces 10 bs) in
+    grind arith
