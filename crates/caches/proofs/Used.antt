@@ -9,6 +9,7 @@ use Rattle.std.proofs.shelf.Lists.{take-all}
 use Rattle.std.proofs.shelf.Tests.{both-ways}
 use Rattle.trace.specs.Items.{same}
 use Rattle.trace.specs.declared.Block.{Block}
+use Rattle.trace.proofs.Blocks.{same-equal}
 use Rattle.caches.specs.Caches.{among, without, used}
 
 pub without-short : (q : Block) (xs : List Block) → length (without q xs) ≤ length xs
@@ -48,4 +49,12 @@ pub among-used : (n : ℕ) (b c : Block) (L : List Block) → same b c ≡ false
 among-used n b c L d e =
     let x = among-without b c L in
     let y = among-take c n (b ∷ L) in
+    grind arith
+
+-- a loss of another block takes none out
+pub among-without-other : (b c : Block) (xs : List Block) → same b c ≡ false → among c (without b xs) ≡ among c xs
+among-without-other b c [] d = refl
+among-without-other b c (x ∷ xs) d =
+    let ih = among-without-other b c xs d in
+    let k = same-equal x b in
     grind arith

@@ -1,1 +1,4 @@
 pub mod Caches
+pub mod Includes
+pub mod Partition
+pub mod Views

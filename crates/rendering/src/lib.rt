@@ -1,5 +1,6 @@
 ghost use mathlib.Core.List.{List, _++_};
-ghost use Prim.Native.Nat.{ℕ};
+ghost use Prim.Native.Nat.{ℕ, _≤_};
+ghost use lib.ListN.{length};
 ghost use Rattle.std.specs.shelf.Lists.{joined};
 ghost use mathlib.Core.Path.{_≡_};
 ghost use denote.Ref.{now};
@@ -72,12 +73,21 @@ pub trait Line {
         ensures { λ r. ⌜ made r (λ _. string-bytes (now (out .exit)) ≡ string-bytes (now (out .entry)) ++ text (now (self .entry))) ⌝ };
 }
 
+// The first n of the lines, one after another: all of them, where n is their number.
+fn push_first<T: Line>(out: &mut String, lines: &[T], n: usize) -> Result<(), AllocError>
+    requires { ⌜ n ≤ length (now lines) ⌝ }
+    ensures { λ r. ⌜ made r (λ _. n ≡ length (now (lines .entry)) → string-bytes (now (out .exit)) ≡ string-bytes (now (out .entry)) ++ joined text (now (lines .entry))) ⌝ }
+{
+    for i in 0..n {
+        lines[i].push(out)?;
+    }
+    Ok(())
+}
+
 // Lines one after another.
 pub fn push_lines<T: Line>(out: &mut String, lines: &[T]) -> Result<(), AllocError>
     ensures { λ r. ⌜ made r (λ _. string-bytes (now (out .exit)) ≡ string-bytes (now (out .entry)) ++ joined text (now (lines .entry))) ⌝ }
 {
-    for line in lines {
-        line.push(out)?;
-    }
+    push_first(out, lines, lines.len())?;
     Ok(())
 }

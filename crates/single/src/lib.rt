@@ -45,3 +45,10 @@ pub struct Refused<M> {
     pub map: M,
     pub refusal: Refusal,
 }
+
+// What an ended cache leaves.
+#[derive(Drop)]
+pub struct Ended<M> {
+    pub map: M,
+    pub accepted: u32,
+}

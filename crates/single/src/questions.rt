@@ -1,5 +1,6 @@
 ghost use mathlib.Core.Path.{_≡_};
 ghost use Rattle.single.specs.Calls.{tables-of, tallied};
+use super::Ended;
 use super::Frame;
 use super::Tallies;
 use super::cache::SingleCache;
@@ -27,15 +28,15 @@ impl<M: SetMap> SingleCache<M> {
         })
     }
 
-    // Ends the cache, and hands its map back.
-    pub fn end(self) -> M
-        ensures { λ r. ⌜ r ≡ self .map ⌝ }
+    // Ends the cache: its map back, and how many references it has accepted.
+    pub fn end(self) -> Ended<M>
+        ensures { λ r. ⌜ (r .map ≡ self .map) × (r .accepted ≡ self .accepted) ⌝ }
     {
         let SingleCache {
             map,
             settings: _,
-            accepted: _,
+            accepted,
         } = self;
-        map
+        Ended { map, accepted }
     }
 }

@@ -56,6 +56,19 @@ impl<M: SetMap> SingleCache<M> {
         ensures tables { λ r. ⌜ tables-of (now (frames .exit)) (now (counters .exit)) ≡ elim r [ Ok o ↦ cleared (meaning map) s (tables-of (now (frames .entry)) (now (counters .entry))) | Err x ↦ tables-of (now (frames .entry)) (now (counters .entry)) ] ⌝ }
         ensures faithful { λ _. ⌜ As-separate (meaning map) s ⌝ }
     {
+        SingleCache::start(map, s, frames, counters)
+    }
+
+    // The set-up itself; every list of calls after it is what `set_up` promises besides.
+    fn start(
+        map: M,
+        s: Settings,
+        frames: &mut [Frame],
+        counters: &mut [u32],
+    ) -> Result<SingleCache<M>, Refused<M>>
+        ensures answer { λ r. ⌜ elim r [ Ok o ↦ (set-up-refusal (meaning map) s (tables-of (now (frames .entry)) (now (counters .entry))) ≡ None) × (o .map ≡ map) × (o .settings ≡ s) × (o .accepted ≡ 0) | Err x ↦ (set-up-refusal (meaning map) s (tables-of (now (frames .entry)) (now (counters .entry))) ≡ Some (x .refusal)) × (x .map ≡ map) ] ⌝ }
+        ensures tables { λ r. ⌜ tables-of (now (frames .exit)) (now (counters .exit)) ≡ elim r [ Ok o ↦ cleared (meaning map) s (tables-of (now (frames .entry)) (now (counters .entry))) | Err x ↦ tables-of (now (frames .entry)) (now (counters .entry)) ] ⌝ }
+    {
         if is_unlimited(s) {
             return Err(Refused {
                 map,

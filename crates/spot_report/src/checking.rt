@@ -11,6 +11,13 @@ ghost use Rattle.std.specs.Vec.{made};
 ghost use Rattle.std.specs.declared.option.Option.the-variants.{None};
 ghost use Rattle.std.specs.declared.result.Result.the-variants.{Ok};
 ghost use Rattle.trace.specs.Text.{text-items};
+use super::Chosen;
+use super::Map;
+use super::RefusedLine;
+use super::Report;
+use super::feeding::feed_all;
+use super::rows::list_rows;
+use super::settings::read_settings;
 use setmap::SetMap;
 use setmap::bit_choice::BitChoice;
 use setmap::bit_choice::BitChoiceSetMap;
@@ -26,13 +33,6 @@ use text::cut::split_line;
 use text::source::Text;
 use text::source::TextSource;
 use trace::Refusal;
-use super::Chosen;
-use super::Map;
-use super::RefusedLine;
-use super::Report;
-use super::feeding::feed_all;
-use super::rows::list_rows;
-use super::settings::read_settings;
 
 // The longest input that is read.
 pub const INPUT_LIMIT: usize = 65_536;
@@ -47,7 +47,14 @@ fn alone(line: u64, refusal: Refusal) -> Report
 }
 
 // A trace put to a cache with these tables, which a set-up accepts.
-fn spot_with<M: SetMap + Drop>(heap: Global, map: M, s: Settings, trace: &[u8], frames: &mut [Frame], counters: &mut [u32]) -> Result<Report, AllocError>
+fn spot_with<M: SetMap + Drop>(
+    heap: Global,
+    map: M,
+    s: Settings,
+    trace: &[u8],
+    frames: &mut [Frame],
+    counters: &mut [u32],
+) -> Result<Report, AllocError>
     requires accepted { ⌜ set-up-refusal (meaning map) s (tables-of (now frames) (now counters)) ≡ None ⌝ }
     requires few { ⌜ length (now trace) ≤ 65536 ⌝ }
     ensures { λ r. ⌜ made r (λ x. content-of x ≡ spotted-on (meaning map) s (text-items (now (trace .entry)))) ⌝ }
@@ -65,7 +72,12 @@ fn spot_with<M: SetMap + Drop>(heap: Global, map: M, s: Settings, trace: &[u8], 
 }
 
 // A trace put to a cache on the map, with tables of just the size that the settings need.
-fn spot_trace<M: SetMap + Drop>(heap: Global, map: M, s: Settings, trace: &[u8]) -> Result<Report, AllocError>
+fn spot_trace<M: SetMap + Drop>(
+    heap: Global,
+    map: M,
+    s: Settings,
+    trace: &[u8],
+) -> Result<Report, AllocError>
     requires { ⌜ length (now trace) ≤ 65536 ⌝ }
     ensures { λ r. ⌜ made r (λ x. content-of x ≡ unless-settings (settings-refusal (meaning map) s) (spotted-on (meaning map) s (text-items (now (trace .entry))))) ⌝ }
 {
@@ -74,7 +86,14 @@ fn spot_trace<M: SetMap + Drop>(heap: Global, map: M, s: Settings, trace: &[u8])
         Ok(sizes) => {
             let mut frames: Vec<Frame> = vec![in heap; None; sizes.frames]?;
             let mut counters: Vec<u32> = vec![in heap; 0; sizes.counters]?;
-            spot_with(heap, map, s, trace, frames.as_mut_slice(), counters.as_mut_slice())
+            spot_with(
+                heap,
+                map,
+                s,
+                trace,
+                frames.as_mut_slice(),
+                counters.as_mut_slice(),
+            )
         }
     }
 }

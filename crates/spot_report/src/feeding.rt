@@ -7,6 +7,7 @@ ghost use Rattle.spot_report.specs.Spot.{refused-line};
 ghost use Rattle.spot_report.specs.Steps.{fed-answer, fed-accepted, fed-tables, Put-through};
 ghost use Rattle.std.specs.Of.Vec.{vec-items};
 ghost use Rattle.std.specs.Vec.{made};
+use super::RefusedLine;
 use setmap::SetMap;
 use single::Frame;
 use single::SingleCache;
@@ -14,7 +15,6 @@ use std::alloc::AllocError;
 use trace::Fault;
 use trace::Layer;
 use trace::Source;
-use super::RefusedLine;
 
 #[derive(Clone, Copy)]
 pub enum Fed {
@@ -23,7 +23,12 @@ pub enum Fed {
 }
 
 // Puts the next item of a source to the cache.
-pub(super) fn feed<M: SetMap, S: Source>(cache: &mut SingleCache<M>, source: &mut S, frames: &mut [Frame], counters: &mut [u32]) -> Result<Fed, Fault>
+pub(super) fn feed<M: SetMap, S: Source>(
+    cache: &mut SingleCache<M>,
+    source: &mut S,
+    frames: &mut [Frame],
+    counters: &mut [u32],
+) -> Result<Fed, Fault>
     requires long { ⌜ short (meaning (now cache .map)) (now cache .settings) (tables-of (now frames) (now counters)) ≡ false ⌝ }
     requires room { ⌜ now cache .accepted < 2 ^ 32 - 1 ⌝ }
     ensures answer { λ r. ⌜ r ≡ fed-answer (now (cache .entry) .settings) (items (now (source .entry))) (answered (now (source .entry)) + 1) ⌝ }

@@ -3,6 +3,9 @@ ghost use Rattle.spot_report.specs.Spot.{alone, whole, refused-text, row-text,
 ghost use Rattle.spot_report.specs.Steps.{content-of};
 ghost use Rattle.std.specs.Of.String.{string-bytes};
 ghost use Rattle.std.specs.Vec.{made};
+use super::RefusedLine;
+use super::Report;
+use super::Row;
 use rendering::Line;
 use rendering::push_heading;
 use rendering::push_lines;
@@ -10,9 +13,6 @@ use rendering::push_numbers;
 use rendering::push_titled;
 use std::alloc::AllocError;
 use std::alloc::Global;
-use super::RefusedLine;
-use super::Report;
-use super::Row;
 
 pub impl Line for RefusedLine as RefusedLineLine {
     ghost text = { refused-text };

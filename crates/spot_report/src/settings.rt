@@ -3,14 +3,14 @@ ghost use Rattle.std.specs.declared.result.Result.the-variants.{Ok, Err};
 ghost use Rattle.trace.specs.Text.{pieces};
 ghost use Rattle.text.specs.Cuts.{upto, past};
 ghost use Rattle.spot_report.specs.Settings.{map-field, chosen};
+use super::Chosen;
+use super::Map;
 use single::Settings;
 use text::cut::count_fields;
 use text::cut::take_field;
 use text::faults::RefusalFromField;
 use text::fields::take_number;
 use trace::Refusal;
-use super::Chosen;
-use super::Map;
 
 // The first field of a line as a map, and the rest of the line.
 fn take_map(line: &[u8]) -> Result<(Map, &[u8]), Refusal>

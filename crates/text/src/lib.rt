@@ -4,3 +4,4 @@ pub mod faults;
 pub mod fields;
 pub mod line;
 pub mod source;
+pub mod worked;

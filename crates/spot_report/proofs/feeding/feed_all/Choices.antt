@@ -25,7 +25,7 @@ Inv-loop-fed g l =
     × (l .cache .accepted + length items < 2 ^ 32 - 1)
     × (n + length items < 2 ^ 32)
     × ((t₀ : Tables) (h : History) → Reached m s t₀ h (l .entry .cache .accepted) (tables-of (l .entry .frames) (l .entry .counters))
-      → Underway m s t₀ (reading s (n₀ + 2) items₀ h .history) (vec-items (l .entry .refused) ++ reading s (n₀ + 2) items₀ h .refused) items (n + 2) (l .cache .accepted) (tables-of (l .frames) (l .counters)) (vec-items (l .refused)))
+    → Underway m s t₀ (reading s (n₀ + 2) items₀ h .history) (vec-items (l .entry .refused) ++ reading s (n₀ + 2) items₀ h .refused) items (n + 2) (l .cache .accepted) (tables-of (l .frames) (l .counters)) (vec-items (l .refused)))
 
 abbrev pub μ-loop-fed : given.MeasureT-loop-fed
 μ-loop-fed g l = length (g .S·Source .items (l .source))

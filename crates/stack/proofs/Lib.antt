@@ -1,0 +1,6 @@
+mod Walks
+mod Ends
+mod Raises
+mod Thins
+mod Packs
+mod Losses

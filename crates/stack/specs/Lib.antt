@@ -1,0 +1,4 @@
+pub mod Stack
+pub mod Walk
+pub mod Touch
+pub mod Worked

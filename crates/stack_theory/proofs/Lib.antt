@@ -1,0 +1,4 @@
+pub mod Cells
+pub mod Simulation
+pub mod Held
+pub mod Bound
