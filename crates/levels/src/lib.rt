@@ -1,7 +1,8 @@
 ghost use lib.Bits.{bitAnd, bitOr, bitXor};
-ghost use lib.Dec.{eqb};
+ghost use lib.Dec.{eqb, ltb};
+ghost use mathlib.Core.Bool.{false, not, _&&_, _||_};
 ghost use mathlib.Core.Path.{_≡_};
-ghost use Prim.Native.Nat.{_-_, _/_, _%_, _^_, _<_};
+ghost use Prim.Native.Nat.{ℕ, _-_, _/_, _%_, _^_, _<_};
 ghost use Rattle.levels.specs.Levels.{has, no-level, below, both, either, less, isNone};
 
 // A set of levels: bit i stands for level i.
@@ -12,14 +13,16 @@ pub struct Levels {
 
 impl Levels {
     pub fn none() -> Levels
-        ensures { λ r. ⌜ r ≡ no-level ⌝ }
+        ensures value { λ r. ⌜ r ≡ no-level ⌝ }
+        ensures levels { λ r. ⌜ ((i : ℕ) → has r i ≡ false) ⌝ }
     {
         Levels { bits: 0 }
     }
 
     // The levels 0 to n - 1, of 32 at most.
     pub fn below(n: u32) -> Levels
-        ensures { λ r. ⌜ r ≡ below n ⌝ }
+        ensures value { λ r. ⌜ r ≡ below n ⌝ }
+        ensures levels { λ r. ⌜ ((i : ℕ) → i < 32 → has r i ≡ ltb i n) ⌝ }
     {
         if n < 32 {
             Levels { bits: ones(n) }
@@ -36,7 +39,8 @@ impl Levels {
     }
 
     pub fn both(self, other: Levels) -> Levels
-        ensures { λ r. ⌜ r ≡ both self other ⌝ }
+        ensures value { λ r. ⌜ r ≡ both self other ⌝ }
+        ensures levels { λ r. ⌜ ((i : ℕ) → has r i ≡ (has self i && has other i)) ⌝ }
     {
         Levels {
             bits: common(self.bits, other.bits),
@@ -44,7 +48,8 @@ impl Levels {
     }
 
     pub fn either(self, other: Levels) -> Levels
-        ensures { λ r. ⌜ r ≡ either self other ⌝ }
+        ensures value { λ r. ⌜ r ≡ either self other ⌝ }
+        ensures levels { λ r. ⌜ ((i : ℕ) → has r i ≡ (has self i || has other i)) ⌝ }
     {
         Levels {
             bits: joined(self.bits, other.bits),
@@ -53,7 +58,8 @@ impl Levels {
 
     // The levels that `other` lacks.
     pub fn less(self, other: Levels) -> Levels
-        ensures { λ r. ⌜ r ≡ less self other ⌝ }
+        ensures value { λ r. ⌜ r ≡ less self other ⌝ }
+        ensures levels { λ r. ⌜ ((i : ℕ) → has r i ≡ (has self i && not (has other i))) ⌝ }
     {
         Levels {
             bits: without(self.bits, other.bits),

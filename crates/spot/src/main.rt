@@ -1,4 +1,4 @@
-use spot_report::INPUT_LIMIT;
+use report::INPUT_LIMIT;
 use spot_report::render;
 use spot_report::spot_check;
 use std::error::AnyError;

@@ -14,10 +14,11 @@ use Rattle.trace.specs.declared.Fault.{Fault}
 use Rattle.caches.specs.Caches.{History}
 use Rattle.single.specs.declared.Settings.{Settings}
 use Rattle.single.specs.Calls.{Tables, short}
-use Rattle.spot_report.specs.declared.RefusedLine.{RefusedLine}
+use Rattle.report.specs.declared.RefusedLine.{RefusedLine}
 use Rattle.spot_report.specs.declared.feeding.Fed.{Fed}
 use Rattle.spot_report.specs.declared.feeding.Fed.the-variants.{Accepted, End}
-use Rattle.spot_report.specs.Spot.{reading, refused-line}
+use Rattle.report.specs.Refused.{refused-line}
+use Rattle.spot_report.specs.Spot.{reading}
 use Rattle.spot_report.specs.Steps.{fed-answer, fed-accepted, fed-tables, Reached}
 use Rattle.spot_report.proofs.Underway.{Underway, judged, underway-end, underway-accepted, underway-fault}
 

@@ -26,10 +26,11 @@ use Rattle.caches.specs.Caches.{History}
 use Rattle.single.specs.declared.Settings.{Settings}
 use Rattle.single.specs.Calls.{Tables, tables-of, short, applied, reference-refusal, Outcome, outcome}
 use Rattle.single.specs.Runs.{Fronts, front, behind, Call, referring, Said, of-reference, World, access, remembered, step, run}
-use Rattle.spot_report.specs.declared.RefusedLine.{RefusedLine}
+use Rattle.report.specs.declared.RefusedLine.{RefusedLine}
 use Rattle.spot_report.specs.declared.feeding.Fed.{Fed}
 use Rattle.spot_report.specs.declared.feeding.Fed.the-variants.{Accepted, End}
-use Rattle.spot_report.specs.Spot.{reading, refused-too, refused-line}
+use Rattle.report.specs.Refused.{refused-too, refused-line}
+use Rattle.spot_report.specs.Spot.{reading}
 use Rattle.spot_report.specs.Steps.{fed-answer, fed-accepted, fed-tables, Reached}
 use Rattle.spot_report.proofs.Feeds.{only-processor}
 

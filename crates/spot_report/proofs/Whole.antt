@@ -20,7 +20,7 @@ use Rattle.single.specs.Calls.{Tables, tables-of, unlimited, short, set-up-refu
 use Rattle.single.specs.Runs.{As-separate, after-set-up}
 use Rattle.single.proofs.Worlds.{no-first}
 use Rattle.caches.specs.Caches.{History}
-use Rattle.spot_report.specs.declared.RefusedLine.{RefusedLine}
+use Rattle.report.specs.declared.RefusedLine.{RefusedLine}
 use Rattle.spot_report.specs.declared.Row.{Row}
 use Rattle.spot_report.specs.declared.Chosen.{Chosen}
 use Rattle.spot_report.specs.Settings.{chosen}

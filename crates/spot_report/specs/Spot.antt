@@ -10,7 +10,7 @@ use Rattle.std.specs.declared.option.Option.the-variants.{Some, None}
 use Rattle.std.specs.declared.result.Result.the-variants.{Ok, Err}
 use Rattle.std.specs.shelf.Lists.{joined}
 use Rattle.setmap.specs.Mapping.{Mapping}
-use Rattle.trace.specs.Items.{Item, reference, bad, number-of}
+use Rattle.trace.specs.Items.{Item, reference, bad}
 use Rattle.trace.specs.Refusals.{outside}
 use Rattle.trace.specs.Text.{Parsed, pieces, line-items}
 use Rattle.trace.specs.declared.Refusal.{Refusal}
@@ -19,23 +19,15 @@ use Rattle.caches.specs.Caches.{History}
 use Rattle.single.specs.declared.Settings.{Settings}
 use Rattle.single.specs.Calls.{settings-refusal}
 use Rattle.single.specs.Runs.{access, tallies}
-use Rattle.rendering.specs.Lines.{line-text, titled-text, heading-text}
+use Rattle.rendering.specs.Lines.{line-text, heading-text}
+use Rattle.report.specs.Refused.{refused-line, refused-text, Reading, refused-too}
+use Rattle.report.specs.Settings.{mapping}
+use Rattle.report.specs.declared.RefusedLine.{RefusedLine}
 use Rattle.spot_report.specs.declared.Chosen.{Chosen}
-use Rattle.spot_report.specs.declared.RefusedLine.{RefusedLine}
 use Rattle.spot_report.specs.declared.Row.{Row}
-use Rattle.spot_report.specs.Settings.{mapping, chosen}
+use Rattle.spot_report.specs.Settings.{chosen}
 
--- a trace read to its end: its refused lines in order, and its accepted references
-pub record Reading : Type 0 where
-  pub refused : List RefusedLine
-  pub history : History
-
-abbrev pub refused-line : ℕ → Refusal → RefusedLine
-refused-line line x = record { line = line; number = number-of x }
-
-abbrev pub refused-too : RefusedLine → Reading → Reading
-refused-too x r = record { refused = x ∷ r .refused; history = r .history }
-
+-- a trace read to its end, from a line on and after some accepted references
 abbrev pub reading : Settings → ℕ → List Item → History → Reading
 reading s line [] h = record { refused = []; history = h }
 reading s line (bad x ∷ items) h = refused-too (refused-line line x) (reading s (line + 1) items h)
@@ -82,9 +74,6 @@ abbrev pub spot-check : List ℕ → Content
 spot-check bytes = cond (ltb 65536 (length bytes)) (only 0 Input) (lines-content (pieces 10 bytes))
 
 -- ---- the text of a report
-
-abbrev pub refused-text : RefusedLine → List ℕ
-refused-text x = titled-text (codes "refused") (x .line ∷ (x .number ∷ []))
 
 abbrev pub row-text : Row → List ℕ
 row-text x = line-text (x .processor ∷ (x .tallies .references ∷ (x .tallies .hits ∷ (x .tallies .drops ∷ []))))

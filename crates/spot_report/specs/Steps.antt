@@ -21,7 +21,7 @@ use Rattle.spot_report.specs.declared.feeding.Fed.{Fed}
 use Rattle.spot_report.specs.declared.feeding.Fed.the-variants.{Accepted, End}
 use Rattle.spot_report.specs.declared.Report.{Report}
 use Rattle.spot_report.specs.declared.Report.the-variants.{Alone, Whole}
-use Rattle.spot_report.specs.declared.RefusedLine.{RefusedLine}
+use Rattle.report.specs.declared.RefusedLine.{RefusedLine}
 use Rattle.spot_report.specs.Spot.{Content, alone, whole, reading}
 
 -- a report's content, in lists

@@ -4,7 +4,7 @@ ghost use mathlib.Core.Path.{_≡_};
 ghost use Prim.Native.Nat.{_≤_};
 ghost use Rattle.setmap.specs.Mapping.{Mapping};
 ghost use Rattle.single.specs.Calls.{tables-of, set-up-refusal, settings-refusal};
-ghost use Rattle.spot_report.specs.Settings.{mapping};
+ghost use Rattle.report.specs.Settings.{mapping};
 ghost use Rattle.spot_report.specs.Spot.{only, spotted-on, unless-settings, first-line, spot-check};
 ghost use Rattle.spot_report.specs.Steps.{content-of};
 ghost use Rattle.std.specs.Vec.{made};
@@ -12,12 +12,13 @@ ghost use Rattle.std.specs.declared.option.Option.the-variants.{None};
 ghost use Rattle.std.specs.declared.result.Result.the-variants.{Ok};
 ghost use Rattle.trace.specs.Text.{text-items};
 use super::Chosen;
-use super::Map;
-use super::RefusedLine;
 use super::Report;
 use super::feeding::feed_all;
 use super::rows::list_rows;
 use super::settings::read_settings;
+use report::INPUT_LIMIT;
+use report::Map;
+use report::RefusedLine;
 use setmap::SetMap;
 use setmap::bit_choice::BitChoice;
 use setmap::bit_choice::BitChoiceSetMap;
@@ -34,16 +35,10 @@ use text::source::Text;
 use text::source::TextSource;
 use trace::Refusal;
 
-// The longest input that is read.
-pub const INPUT_LIMIT: usize = 65_536;
-
 fn alone(line: u64, refusal: Refusal) -> Report
     ensures { λ r. ⌜ content-of r ≡ only line refusal ⌝ }
 {
-    Report::Alone(RefusedLine {
-        line,
-        number: refusal.number(),
-    })
+    Report::Alone(RefusedLine::new(line, refusal))
 }
 
 // A trace put to a cache with these tables, which a set-up accepts.

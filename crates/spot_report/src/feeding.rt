@@ -3,11 +3,11 @@ ghost use mathlib.Core.Bool.{false};
 ghost use mathlib.Core.Path.{_≡_};
 ghost use Prim.Native.Nat.{_+_, _-_, _^_, _<_};
 ghost use Rattle.single.specs.Calls.{tables-of, short};
-ghost use Rattle.spot_report.specs.Spot.{refused-line};
+ghost use Rattle.report.specs.Refused.{refused-line};
 ghost use Rattle.spot_report.specs.Steps.{fed-answer, fed-accepted, fed-tables, Put-through};
 ghost use Rattle.std.specs.Of.Vec.{vec-items};
 ghost use Rattle.std.specs.Vec.{made};
-use super::RefusedLine;
+use report::RefusedLine;
 use setmap::SetMap;
 use single::Frame;
 use single::SingleCache;
@@ -58,10 +58,7 @@ fn refused_line(fault: Fault) -> RefusedLine
     requires { ⌜ fault .item < 2 ^ 64 - 1 ⌝ }
     ensures { λ r. ⌜ r ≡ refused-line (fault .item + 1) (fault .refusal) ⌝ }
 {
-    RefusedLine {
-        line: fault.item + 1,
-        number: fault.refusal.number(),
-    }
+    RefusedLine::new(fault.item + 1, fault.refusal)
 }
 
 // Puts a source to the cache, to its end, and adds its refused lines to `refused`.

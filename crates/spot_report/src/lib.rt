@@ -1,3 +1,5 @@
+use report::Map;
+use report::RefusedLine;
 use single::Settings;
 use single::Tallies;
 
@@ -7,29 +9,14 @@ mod rendered;
 mod rows;
 mod settings;
 
-pub use checking::INPUT_LIMIT;
 pub use checking::spot_check;
 pub use rendered::render;
-
-// The set map that an input names.
-#[derive(Clone, Copy)]
-pub enum Map {
-    BitChoice,
-    Thirds,
-}
 
 // What line 1 of an input says.
 #[derive(Clone, Copy)]
 pub struct Chosen {
     pub map: Map,
     pub settings: Settings,
-}
-
-// A refused line of the input, by its number from 1, or 0 for the input as a whole.
-#[derive(Clone, Copy)]
-pub struct RefusedLine {
-    pub line: u64,
-    pub number: u32,
 }
 
 // What is counted of one processor.

@@ -1,26 +1,18 @@
 ghost use mathlib.Core.Path.{_≡_};
-ghost use Rattle.spot_report.specs.Spot.{alone, whole, refused-text, row-text, text-of};
+ghost use Rattle.spot_report.specs.Spot.{alone, whole, row-text, text-of};
 ghost use Rattle.spot_report.specs.Steps.{content-of};
 ghost use Rattle.std.specs.Of.String.{string-bytes};
 ghost use Rattle.std.specs.Vec.{made};
-use super::RefusedLine;
 use super::Report;
 use super::Row;
 use rendering::Line;
 use rendering::push_heading;
 use rendering::push_lines;
 use rendering::push_numbers;
-use rendering::push_titled;
+use report::RefusedLine;
+use report::RefusedLineLine;
 use std::alloc::AllocError;
 use std::alloc::Global;
-
-pub impl Line for RefusedLine as RefusedLineLine {
-    ghost text = { refused-text };
-
-    fn push(&self, out: &mut String) -> Result<(), AllocError> {
-        push_titled(out, "refused", &[self.line, u64::from(self.number)])
-    }
-}
 
 pub impl Line for Row as RowLine {
     ghost text = { row-text };

@@ -4,13 +4,14 @@ use mathlib.Core.Bool.{Bool, true, false, not, _&&_, cond}
 use mathlib.Core.List.{List, [], _∷_, _++_}
 use mathlib.Core.Logic.{inl, inr}
 use Prim.Native.Nat.{ℕ, zero, suc, _+_, _-_, _≤_, _<_, min}
+use mir.Val.{boolByte}
 use native.Mathlib.Omega.{arith}
 use lib.Dec.{ltb}
 use lib.ListN.{length, take, drop, getD, set, replicate}
 use Rattle.std.specs.shelf.Lists.{sum, countBy}
 use Rattle.std.proofs.shelf.Lists.{append-assoc, append-nil, length-append, length-push, length-set, take-more, at-drop-more, at-drop-all, drop-set-lt, drop-set-add, getD-drop, length-drop}
 use Rattle.std.proofs.shelf.Sums.{sumBy-push, sumBy-set, sumBy-cons, sumBy-take-drop, sumBy-drop-more}
-use Rattle.std.proofs.shelf.Tests.{not-true, not-false, cases-lt, cases-bool, lt-ltb, le-ltb}
+use Rattle.std.proofs.shelf.Tests.{cases-lt, cases-bool, lt-ltb, le-ltb}
 use Rattle.std.specs.declared.option.Option.the-variants.{Some, None}
 use Rattle.setmap.specs.Mapping.{Mapping, shared}
 use Rattle.trace.specs.Items.{same}
@@ -180,11 +181,17 @@ no-tally m q g e = record { given-is = e; stays-is = refl; counted = none; few =
     few′ : (i : ℕ) → i < 17 → sum (replicate 18 0) + getD (replicate 17 0) i 0 ≤ 0
     few′ i h = omega (arith, nothing 18 0, zeros 17 i)
 
-pub one-marker : (b : MemoryBlock) (v w : Levels) (t : Bool) → t ≡ not (isNone w) → w ≡ v → t ≡ true → length (marker b v) ≡ 1
-one-marker b v w t e f z = let n : isNone v ≡ false = ap isNone (sym f) ∙ not-true _ (sym e ∙ z) in rw n
+-- a marker that stands is one entry, counted by the byte of the test
+pub byte-le : (t : Bool) → boolByte t ≤ 1
+byte-le true = omega arith
+byte-le false = omega arith
 
-pub no-marker : (b : MemoryBlock) (v w : Levels) (t : Bool) → t ≡ not (isNone w) → w ≡ v → t ≡ false → length (marker b v) ≡ 0
-no-marker b v w t e f z = let n : isNone v ≡ true = ap isNone (sym f) ∙ not-false _ (sym e ∙ z) in rw n
+pub marker-byte : (b : MemoryBlock) (v w : Levels) (t : Bool) → t ≡ not (isNone w) → w ≡ v → boolByte t ≡ length (marker b v)
+marker-byte b v w t e f =
+    elim (cases-bool (isNone v)) [
+      | inl n ↦ rw (e, f, n)
+      | inr n ↦ rw (e, f, n)
+    ]
 
 later-cond : (t : Bool) (n c : ℕ) → later (cond t (Some n) None) c ≡ cond t (Some (n + c)) None
 later-cond true n c = refl

@@ -13,6 +13,7 @@ use Rattle.levels.specs.declared.Levels.{Levels}
 use Rattle.levels.specs.Levels.{either, less, no-level}
 use Rattle.stack.specs.declared.Entry.{Entry}
 use Rattle.stack.specs.declared.Entry.the-variants.{Empty, Block, Marker}
+use Rattle.stack.specs.declared.walk.Tally.{Tally}
 use Rattle.stack.specs.declared.walk.Walk.{Walk}
 use Rattle.stack.specs.Stack.{stack, counts, marker, gives, position}
 
@@ -63,6 +64,12 @@ pub record Tallied (m : Mapping) (q : MemoryBlock) (es : List Entry) (sharing ma
   pub few : (i : ℕ) → i < 17 → sum sharing + getD markers i 0 ≤ length es
   pub wide : length sharing ≡ 18
   pub deep : length markers ≡ 17
+
+-- what is counted of a stretch on the way to q
+pub record Counted (m : Mapping) (q : MemoryBlock) (es : List Entry) (t : Tally) : Type 0 where
+  pub place-is : t .place ≡ stop q es
+  pub found-is : t .found ≡ stands-in q es
+  pub tallied : Tallied m q (above q es) (t .sharing) (t .markers) (t .given) (t .stays)
 
 -- Where a walk for q stopped, whether q is there, what the markers above give up, how many entries stay above then,
 -- and how many entries count from the top down to q itself, at each level: its position.

@@ -3,7 +3,7 @@ ghost use mathlib.Core.Bool.{cond};
 ghost use mathlib.Core.Path.{_≡_};
 ghost use Prim.Native.Nat.{ℕ, _+_, _<_, _≤_, _^_};
 ghost use Rattle.levels.specs.Levels.{has};
-ghost use Rattle.stack.specs.Walk.{stop, above, stands-in, Tallied, Walked};
+ghost use Rattle.stack.specs.Walk.{Counted, Walked};
 ghost use Rattle.std.specs.shelf.Lists.{sum};
 use super::Entry;
 use super::marker::meet;
@@ -47,9 +47,7 @@ fn count_levels(counts: &mut [usize], levels: Levels)
 
 // One pass down to the block, or to the end of the stack.
 fn count_above<M: SetMap>(es: &[Entry], q: Block, map: &M) -> Tally
-    ensures place { λ r. ⌜ r .place ≡ stop q (now (es .entry)) ⌝ }
-    ensures found { λ r. ⌜ r .found ≡ stands-in q (now (es .entry)) ⌝ }
-    ensures tallied { λ r. ⌜ Tallied (meaning (now (map .entry))) q (above q (now (es .entry))) (r .sharing) (r .markers) (r .given) (r .stays) ⌝ }
+    ensures { λ r. ⌜ Counted (meaning (now (map .entry))) q (now (es .entry)) r ⌝ }
 {
     let mut sharing = [0; 18];
     let mut markers = [0; 17];
@@ -72,9 +70,7 @@ fn count_above<M: SetMap>(es: &[Entry], q: Block, map: &M) -> Tally
             Entry::Marker(b, v) => {
                 let met = meet(q, b, v, given, map);
                 count_levels(&mut markers, met.counts);
-                if stands(met.keeps) {
-                    stays += 1;
-                }
+                stays += stands(met.keeps) as usize;
                 given = given.either(met.gives);
             }
         }

@@ -6,7 +6,8 @@ use lib.ListN.{length, drop}
 use Rattle.std.specs.Of.Vec.{vec-items}
 use Rattle.std.specs.declared.result.Result.the-variants.{Ok}
 use Rattle.single.specs.Calls.{tables-of}
-use Rattle.spot_report.specs.Spot.{reading, refused-line}
+use Rattle.report.specs.Refused.{refused-line}
+use Rattle.spot_report.specs.Spot.{reading}
 use Rattle.spot_report.proofs.Underway.{short-same, Underway}
 use Rattle.spot_report.proofs.Turns.{some-accepted, some-fault, room, turn-accepted, turn-fault, turn-end}
 use Rattle.spot_report.proofs.feeding.feed_all.Given as given

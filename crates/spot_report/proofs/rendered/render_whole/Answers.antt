@@ -5,7 +5,8 @@ use lib.Chars.{codes}
 use Rattle.std.specs.shelf.Lists.{joined}
 use Rattle.std.proofs.shelf.Lists.{append-assoc}
 use Rattle.rendering.specs.Lines.{heading-text}
-use Rattle.spot_report.specs.Spot.{refused-text, row-text}
+use Rattle.report.specs.Refused.{refused-text}
+use Rattle.spot_report.specs.Spot.{row-text}
 use Rattle.spot_report.proofs.rendered.render_whole.Needs as need
 
 pub returns : need.returns

@@ -24,13 +24,13 @@ loop-at-again g c =
           (let b = w .in-Marker .b in
           let v = w .in-Marker .v in
           let x = giving-is m q gv b v _ _ (w .meet-met .ensures .gives) (w .meet-met .ensures .counts) in
-          thin-keeps m q E at h ys _ to _ gv _ _ t (sym r ∙ w .in-Marker .is) (w .given-is ∙ w .either-given .ensures ∙ ap (either gv) x) _
+          thin-keeps m q E at h ys _ to _ gv _ _ t (sym r ∙ w .in-Marker .is) (w .given-is ∙ w .either-given .ensures .value ∙ ap (either gv) x) _
           (marker-keeps m q gv b v _ _ _ x (w .meet-met .ensures .keeps) (w .stands .ensures) (w .if-stands .taken)) (w .es-is) (w .to-is))
       | in-Marker·else-stands w ↦
           (let b = w .in-Marker .b in
           let v = w .in-Marker .v in
           let x = giving-is m q gv b v _ _ (w .meet-met .ensures .gives) (w .meet-met .ensures .counts) in
-          thin-skips m q E at h ys _ to _ gv _ _ t (sym r ∙ w .in-Marker .is) (w .given-is ∙ w .either-given .ensures ∙ ap (either gv) x)
+          thin-skips m q E at h ys _ to _ gv _ _ t (sym r ∙ w .in-Marker .is) (w .given-is ∙ w .either-given .ensures .value ∙ ap (either gv) x)
           (marker-goes m q gv b v _ _ _ x (w .meet-met .ensures .keeps) (w .stands .ensures) (w .if-stands .left)) (w .es-is) (w .to-is))
       | in-rest w ↦
           (let o = other-keeps m q gv _ (w .in-rest .not-Marker) in

@@ -1,16 +1,16 @@
-use Prim.Native.Nat.{_<_, _≤_, min}
+use Prim.Native.Nat.{_+_, _<_, _≤_, min}
 use mathlib.Core.Path.{_≡_, refl, sym, ap, _∙_}
 use native.Mathlib.Omega.{arith}
 use lib.ListN.{length, take, drop, getD, length-take}
 use Rattle.std.proofs.shelf.Sums.{getD-le-sumBy}
 use Rattle.levels.specs.Levels.{no-level}
 use Rattle.stack.specs.Walk.{stop, begins}
-use Rattle.stack.proofs.Walks.{goes-on, stops, at-end, past-block, past-marker, no-tally, stays-le, one-marker, no-marker, block-is, none-past}
+use Rattle.stack.proofs.Walks.{goes-on, stops, at-end, past-block, past-marker, no-tally, stays-le, marker-byte, byte-le, block-is, none-past}
 use Rattle.stack.proofs.walk.count_above.Needs as need
-use Rattle.stack.proofs.walk.count_above.Needs.{in-Block·else-is, in-Marker, then-stands, else-stands}
+use Rattle.stack.proofs.walk.count_above.Needs.{in-Block·else-is, in-Marker}
 
 pub loop-place-holds : need.loop-place-holds
-loop-place-holds g c = (omega arith, omega arith, no-tally _ _ _ (c .none-given .ensures))
+loop-place-holds g c = (omega arith, omega arith, no-tally _ _ _ (c .none-given .ensures .value))
 
 pub add-sharing : need.add-sharing
 add-sharing g c =
@@ -28,12 +28,12 @@ add-stays g c =
     let s = stays-le (g .M·SetMap .meaning (c .args .map .now)) (c .args .q) no-level (take (c .loop-place .place) (c .args .es .now)) in
     omega (arith, t .stays-is)
 
-pub add-stays-then-stands : need.add-stays-then-stands
-add-stays-then-stands g c =
+pub add-stays-in-Marker : need.add-stays-in-Marker
+add-stays-in-Marker g c =
     let t = c .loop-place .inv .2 in
     let l = length-take (c .loop-place .place) (c .args .es .now) in
     let s = stays-le (g .M·SetMap .meaning (c .args .map .now)) (c .args .q) no-level (take (c .loop-place .place) (c .args .es .now)) in
-    omega (arith, t .stays-is)
+    omega (arith, t .stays-is, byte-le (c .stands .result))
 
 pub loop-place-again : need.loop-place-again
 loop-place-again g c =
@@ -56,11 +56,8 @@ loop-place-again g c =
             (w .meet-met .ensures .counts) (w .meet-met .ensures .gives) (w .sharing-is)
             (λ k l. ap (λ x. getD x k 0) (w .markers-is) ∙ w .count-levels .ensures k l)
             (ap length (w .markers-is) ∙ w .count-levels .kept .counts ∙ i .2 .deep)
-            (elim (w .if-stands .came) [
-              | then-stands w′ ↦ (let o = one-marker (w .in-Marker .b) _ _ _ (w .stands .ensures) (w .meet-met .ensures .keeps) (w′ .if-stands .taken) in omega (arith, w .stays-is, w′ .stays-is))
-              | else-stands w′ ↦ (let o = no-marker (w .in-Marker .b) _ _ _ (w .stands .ensures) (w .meet-met .ensures .keeps) (w′ .if-stands .left) in omega (arith, w .stays-is, w′ .stays-is))
-            ])
-            (w .given-is ∙ w .either-given .ensures) (i .2),
+            (w .stays-is ∙ ap (λ n. c .loop-place .stays + n) (marker-byte (w .in-Marker .b) _ _ _ (w .stands .ensures) (w .meet-met .ensures .keeps)))
+            (w .given-is ∙ w .either-given .ensures .value) (i .2),
       )
     ]
 
@@ -70,7 +67,7 @@ returns-then-place-es g c =
     let es = c .args .es .now in
     let h : length es ≤ c .loop-place .place = omega arith in
     let e : c .loop-place .place ≡ stop (c .args .q) es = at-end (c .args .q) es _ h (i .1) in
-    record { place = e; found = sym (none-past es _ h) ∙ ap (λ n. begins (drop n es)) e; tallied = rw e at (i .2) }
+    record { place-is = e; found-is = sym (none-past es _ h) ∙ ap (λ n. begins (drop n es)) e; tallied = rw e at (i .2) }
 
 pub returns-in-Empty : need.returns-in-Empty
 returns-in-Empty g c =
@@ -78,7 +75,7 @@ returns-in-Empty g c =
     let es = c .args .es .now in
     let h : c .loop-place .place < length es = omega arith in
     let e : c .loop-place .place ≡ stop (c .args .q) es = stops (c .args .q) es _ _ h (sym (c .in-Empty .is)) refl (i .1) in
-    record { place = e; found = sym (block-is es _ _ h (c .in-Empty .is)) ∙ ap (λ n. begins (drop n es)) e; tallied = rw e at (i .2) }
+    record { place-is = e; found-is = sym (block-is es _ _ h (c .in-Empty .is)) ∙ ap (λ n. begins (drop n es)) e; tallied = rw e at (i .2) }
 
 pub returns-then-is : need.returns-then-is
 returns-then-is g c =
@@ -86,4 +83,4 @@ returns-then-is g c =
     let es = c .args .es .now in
     let h : c .loop-place .place < length es = omega arith in
     let e : c .loop-place .place ≡ stop (c .args .q) es = stops (c .args .q) es _ _ h (sym (c .in-Block .is)) (sym (c .if-is .ensures tt)) (i .1) in
-    record { place = e; found = sym (block-is es _ _ h (c .in-Block .is)) ∙ ap (λ n. begins (drop n es)) e; tallied = rw e at (i .2) }
+    record { place-is = e; found-is = sym (block-is es _ _ h (c .in-Block .is)) ∙ ap (λ n. begins (drop n es)) e; tallied = rw e at (i .2) }

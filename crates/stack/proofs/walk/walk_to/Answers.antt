@@ -18,11 +18,11 @@ returns g c =
     let r = c .count-above-place .ensures in
     let n = λ (i : ℕ) (h : i < 17). c .sum-levels-positions .ensures .each i h ∙ ap (λ n. n + 1) (r .tallied .counted i h) in
     record {
-      place-is = r .place;
-      found-is = r .found;
+      place-is = r .place-is;
+      found-is = r .found-is;
       given-is = r .tallied .given-is;
       stays-is = r .tallied .stays-is;
       counted = n;
-      positioned = λ i h. position-split m (c .args .q) i (c .args .es .now) ∙ same-answer (r .found) (n i h);
+      positioned = λ i h. position-split m (c .args .q) i (c .args .es .now) ∙ same-answer (r .found-is) (n i h);
       seventeen = c .sum-levels-positions .ensures .many;
     }
