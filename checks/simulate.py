@@ -1,8 +1,9 @@
 #!/usr/bin/env python3
-"""An independent simulation of the program `spot`, written from the rules in docs/ alone.
+"""An independent simulation of the programs `spot` and `sheet`, written from the rules in docs/ alone.
 
-Reads the program's input on standard input and prints what `spot` must print, byte for byte.
-It keeps one list of blocks for each processor and set, the latest block first.
+Reads a program's input on standard input and prints what the program named by the first argument
+(else `spot`) must print, byte for byte. For each level and number of ways it keeps caches of their
+own: one list of blocks for each processor and set, the latest block first.
 """
 import sys
 
@@ -11,7 +12,7 @@ NUMBER_LIMIT = 4_294_967_295
 PROCESSOR_LIMIT = 255
 
 # the refusals that the program can print
-SETTING, LEVEL, PROCESSOR, FORM, SIZE, CUT_OFF, INPUT = 1, 2, 4, 9, 10, 11, 12
+SETTING, LEVEL, SHORT_TABLE, PROCESSOR, BLOCKS, FORM, SIZE, CUT_OFF, INPUT = 1, 2, 3, 4, 5, 9, 10, 11, 12
 
 # map letter: (levels offered, sets at level 0); each further level has twice the sets
 MAPS = {b"b": (17, 1), b"t": (16, 3)}
@@ -97,15 +98,71 @@ class Caches:
                     self.drops[other] += 1
 
 
-def spot(data):
-    """What the program prints for an input, both as bytes."""
+class Study:
+    """Caches for every level and number of ways, with what each processor and block has behind it."""
+
+    def __init__(self, processors, shift, first_sets, levels, ways, blocks):
+        self.shift, self.blocks = shift, blocks
+        self.processors = range(1, processors + 1)
+        self.caches = {
+            (level, d): Caches(processors, shift, first_sets * 2**level, d)
+            for level in range(levels)
+            for d in range(1, ways + 1)
+        }
+        self.known = set()
+        self.past = {}  # (processor, block): "held" or "lost"
+        self.cold = {p: 0 for p in self.processors}
+        self.lost = {p: 0 for p in self.processors}
+
+    def refer(self, processor, operation, address):
+        if processor not in self.processors:
+            raise Refused(PROCESSOR)
+        block = address >> self.shift
+        if block not in self.known and len(self.known) == self.blocks:
+            raise Refused(BLOCKS)
+        self.known.add(block)
+        past = self.past.get((processor, block))
+        self.cold[processor] += past is None
+        self.lost[processor] += past == "lost"
+        self.past[processor, block] = "held"
+        if operation == b"w":
+            for other in self.processors:
+                if other != processor and (other, block) in self.past:
+                    self.past[other, block] = "lost"
+        for caches in self.caches.values():
+            caches.refer(processor, operation, address)
+
+    def row(self, p, level, d):
+        caches = self.caches[level, d]
+        references, hits = caches.references[p], caches.hits[p]
+        replaced = references - hits - self.cold[p] - self.lost[p]
+        return p, level, caches.sets, d, references, hits, caches.drops[p], self.cold[p], self.lost[p], replaced
+
+
+def read_study(line):
+    """Line 1 is map,processors,shift,levels,ways,blocks."""
+    letter, *numbers = read_fields(line, 6)
+    offered, first_sets = MAPS[read_letter(letter, MAPS)]
+    processors, shift, levels, ways, blocks = [read_number(field, NUMBER_LIMIT) for field in numbers]
+    if not (1 <= processors <= 64 and shift <= 12 and 1 <= levels <= 17 and 1 <= ways <= 16 and 1 <= blocks <= 4096):
+        raise Refused(SETTING)
+    if levels > offered:
+        raise Refused(LEVEL)
+    counters = processors * (2 * levels * ways + 3)
+    if processors * levels * blocks > 5120 or blocks > 256 or processors * blocks > 4096 or counters > 8192:
+        raise Refused(SHORT_TABLE)
+    return processors, shift, first_sets, levels, ways, blocks
+
+
+def report(data, set_up, heading, rows):
+    """What a program prints for an input, both as bytes."""
     if len(data) > INPUT_LIMIT:
         return b"refused,0,%d\n" % INPUT
     first, *lines = data.split(b"\n")
     try:
         if not lines:
             raise Refused(CUT_OFF if first else FORM)
-        caches = Caches(*read_settings(first))
+        caches = set_up(first)
     except Refused as refusal:
         return b"refused,1,%d\n" % refusal.number
     printed = []
@@ -117,11 +174,26 @@ def spot(data):
             printed.append(b"refused,%d,%d" % (at, refusal.number))
     if tail:
         printed.append(b"refused,%d,%d" % (len(lines) + 2, CUT_OFF))
-    printed.append(b"processor,references,hits,drops")
-    for p in caches.processors:
-        printed.append(b"%d,%d,%d,%d" % (p, caches.references[p], caches.hits[p], caches.drops[p]))
+    printed.append(heading)
+    printed.extend(b",".join(b"%d" % number for number in row) for row in rows(caches))
     return b"\n".join(printed) + b"\n"
 
 
+def spot(data):
+    def rows(caches):
+        return [(p, caches.references[p], caches.hits[p], caches.drops[p]) for p in caches.processors]
+
+    return report(data, lambda line: Caches(*read_settings(line)), b"processor,references,hits,drops", rows)
+
+
+def sheet(data):
+    def rows(study):
+        return [study.row(p, level, d) for p in study.processors for level, d in study.caches]
+
+    heading = b"processor,level,sets,ways,references,hits,drops,cold,lost,replaced"
+    return report(data, lambda line: Study(*read_study(line)), heading, rows)
+
+
 if __name__ == "__main__":
-    sys.stdout.buffer.write(spot(sys.stdin.buffer.read()))
+    program = {"spot": spot, "sheet": sheet}[sys.argv[1] if len(sys.argv) > 1 else "spot"]
+    sys.stdout.buffer.write(program(sys.stdin.buffer.read()))

@@ -1,0 +1,4 @@
+mod Asked
+mod Fed
+mod Lent
+mod Writes

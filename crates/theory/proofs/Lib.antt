@@ -1,0 +1,10 @@
+pub mod Scores
+pub mod Known
+pub mod Counts
+pub mod Rows
+pub mod Places
+pub mod Stands
+pub mod Steps
+pub mod Asked
+pub mod Worlds
+pub mod Theorem
