@@ -21,7 +21,7 @@ pub(super) fn feed_bytes<M: SetMap + Copy>(
     bytes: &[u8],
     count: u64,
 ) -> Result<(Vec<RefusedLine>, u64), ReadError>
-    ensures through { elim result [ Ok x ↦ PutThrough (meaning study.old.map) study.old study.new (items_of form bytes.now) (count + 1) x.0.items × (x.1 ≡ count + length (items_of form bytes.now)) | Err y ↦ NotRead (count + length bytes.now) y ] }
+    ensures through { elim result [ Ok x ↦ PutThrough (M.meaning study.old.map) study.old study.new (items_of form bytes.now) (count + 1) x.0.items × (x.1 ≡ count + length (items_of form bytes.now)) | Err y ↦ NotRead (count + length bytes.now) y ] }
     ensures map { study.new.map ≡ study.old.map }
     ensures settings { study.new.settings ≡ study.old.settings }
 {

@@ -17,7 +17,7 @@ fn refuse_sizes<M: SetMap + Copy>(
     map: M,
     sizes: Sizes,
 ) -> Result<Option<Refusal>, AllocError>
-    ensures { IfOk result (λ x. x ≡ grid_refusal (meaning map) (settings_of sizes)) }
+    ensures { IfOk result (λ x. x ≡ grid_refusal (M.meaning map) (settings_of sizes)) }
 {
     let none = OwnTables::new(heap, 0, 0, 0, 0)?;
     match SheetStudy::set_up(map, sizes, none) {
@@ -50,7 +50,7 @@ fn fitting_tables(heap: Global, sizes: Sizes) -> Result<OwnTables, AllocError>
 impl<M: SetMap + Copy> Grid<M> {
     // A grid of a study of these sizes, for a trace in this form. The sizes are refused as a set-up refuses them; want of memory is an error of its own.
     pub fn open(heap: Global, map: M, sizes: Sizes, form: Form) -> Result<Grid<M>, OpenError>
-        ensures { elim result [ Ok x ↦ (grid_refusal (meaning map) (settings_of sizes) ≡ None) × (x.study.map ≡ map) × (x.study.settings ≡ settings_of sizes) × (x.form ≡ form) × HasRead (meaning map) x [] [] | Err y ↦ NotOpened (meaning map) (settings_of sizes) y ] }
+        ensures { elim result [ Ok x ↦ (grid_refusal (M.meaning map) (settings_of sizes) ≡ None) × (x.study.map ≡ map) × (x.study.settings ≡ settings_of sizes) × (x.form ≡ form) × HasRead (M.meaning map) x [] [] | Err y ↦ NotOpened (M.meaning map) (settings_of sizes) y ] }
     {
         if let Some(refusal) = refuse_sizes(heap, map, sizes)? {
             return Err(OpenError::Refused(refusal));

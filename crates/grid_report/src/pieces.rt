@@ -14,7 +14,7 @@ use std::alloc::Global;
 impl<M: SetMap + Copy> Grid<M> {
     // Takes the next bytes of the trace, and gives the refused ones of the items that are whole now, by their number in the trace. After an error the grid is of no more use.
     pub fn add(&mut self, heap: Global, bytes: &[u8]) -> Result<Vec<RefusedLine>, ReadError>
-        ensures read { elim result [ Ok v ↦ ((before : List ℕ) (refused : List RefusedItem) → HasRead (meaning self.old.study.map) self.old before refused → HasRead (meaning self.old.study.map) self.new (before ++ bytes.now) (refused ++ v.items)) | Err y ↦ NotRead (self.old.count + (vec_len self.old.held + length bytes.now)) y ] }
+        ensures read { elim result [ Ok v ↦ ((before : List ℕ) (refused : List RefusedItem) → HasRead (M.meaning self.old.study.map) self.old before refused → HasRead (M.meaning self.old.study.map) self.new (before ++ bytes.now) (refused ++ v.items)) | Err y ↦ NotRead (self.old.count + (vec_len self.old.held + length bytes.now)) y ] }
         ensures map { self.new.study.map ≡ self.old.study.map }
         ensures settings { self.new.study.settings ≡ self.old.study.settings }
         ensures form { self.new.form ≡ self.old.form }
@@ -36,7 +36,7 @@ impl<M: SetMap + Copy> Grid<M> {
 
     // The end of the trace: what is held is its last item, cut off. Gives what is refused at the end, and a row for each processor, level and number of ways.
     pub fn finish(self, heap: Global) -> Result<(Vec<RefusedLine>, Vec<Row>), ReadError>
-        ensures { elim result [ Ok x ↦ ((bytes : List ℕ) (refused : List RefusedItem) → HasRead (meaning self.study.map) self bytes refused → (refused ++ x.0.items ≡ (trace_reading self.study.settings self.form bytes).refused) × (x.1.items ≡ rows (meaning self.study.map) (trace_reading self.study.settings self.form bytes).history self.study.settings.levels self.study.settings.ways self.study.settings.processors)) | Err y ↦ NotRead (self.count + vec_len self.held) y ] }
+        ensures { elim result [ Ok x ↦ ((bytes : List ℕ) (refused : List RefusedItem) → HasRead (M.meaning self.study.map) self bytes refused → (refused ++ x.0.items ≡ (trace_reading self.study.settings self.form bytes).refused) × (x.1.items ≡ rows (M.meaning self.study.map) (trace_reading self.study.settings self.form bytes).history self.study.settings.levels self.study.settings.ways self.study.settings.processors)) | Err y ↦ NotRead (self.count + vec_len self.held) y ] }
     {
         let Grid {
             mut study,

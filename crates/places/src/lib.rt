@@ -73,7 +73,7 @@ pub trait Test<T> {
 
 // The first place whose element passes, or the length.
 pub fn seek<T, P: Test<T>>(s: &[T], test: &P) -> usize
-    ensures value { result ≡ place (accepts test.now) s.now }
+    ensures value { result ≡ place (P.accepts test.now) s.now }
     ensures bound { result ≤ length s.now }
 {
     let mut i: usize = 0;

@@ -1,4 +1,4 @@
-ghost use Rattle.std.specs.Prelude.{◌≡◌, ℕ, ◌≤◌, List, ◌++◌, length, is_ok, Some, string_bytes, OnOk};
+ghost use Rattle.std.specs.Prelude.{◌≡◌, ℕ, ◌≤◌, List, ◌++◌, length, Some, string_bytes, OnOk};
 ghost use Rattle.std.specs.List.{flat_map};
 ghost use Rattle.rendering.specs.Lines.{after_commas, line_text, titled_text, heading_text};
 
@@ -20,16 +20,6 @@ impl fmt::Display for AfterCommas<'_> {
     }
 }
 
-// A text is not written only where it finds no memory.
-fn found_memory(written: fmt::Result) -> Result<(), AllocError>
-    ensures { is_ok result ≡ is_ok written }
-{
-    match written {
-        Ok(()) => Ok(()),
-        Err(_) => Err(AllocError),
-    }
-}
-
 // Lines are appended whole; where memory fails, no contract says what `out` holds.
 
 // A line of numbers.
@@ -40,7 +30,7 @@ pub fn push_numbers(out: &mut String, numbers: &[u64]) -> Result<(), AllocError>
         return out.push('\n');
     };
     let others = AfterCommas(others);
-    found_memory(writeln!(out, "{first}{others}"))
+    writeln!(out, "{first}{others}")
 }
 
 // A line of a title and numbers.
@@ -48,14 +38,14 @@ pub fn push_titled(out: &mut String, title: &str, numbers: &[u64]) -> Result<(),
     ensures { OnOk result (string_bytes out.new ≡ string_bytes out.old ++ titled_text title.now numbers.now) }
 {
     let numbers = AfterCommas(numbers);
-    found_memory(writeln!(out, "{title}{numbers}"))
+    writeln!(out, "{title}{numbers}")
 }
 
 // A line of text.
 pub fn push_heading(out: &mut String, heading: &str) -> Result<(), AllocError>
     ensures { OnOk result (string_bytes out.new ≡ string_bytes out.old ++ heading_text heading.now) }
 {
-    found_memory(writeln!(out, "{heading}"))
+    writeln!(out, "{heading}")
 }
 
 // What a report writes as a line.
@@ -69,7 +59,7 @@ pub trait Line {
 // The first n of the lines, one after another: all of them, where n is their number.
 fn push_first<T: Line>(out: &mut String, lines: &[T], n: usize) -> Result<(), AllocError>
     requires { n ≤ length lines.now }
-    ensures { OnOk result (n ≡ length lines.now → string_bytes out.new ≡ string_bytes out.old ++ flat_map text lines.now) }
+    ensures { OnOk result (n ≡ length lines.now → string_bytes out.new ≡ string_bytes out.old ++ flat_map T.text lines.now) }
 {
     for i in 0..n {
         lines[i].push(out)?;
@@ -79,7 +69,7 @@ fn push_first<T: Line>(out: &mut String, lines: &[T], n: usize) -> Result<(), Al
 
 // Lines one after another.
 pub fn push_lines<T: Line>(out: &mut String, lines: &[T]) -> Result<(), AllocError>
-    ensures { OnOk result (string_bytes out.new ≡ string_bytes out.old ++ flat_map text lines.now) }
+    ensures { OnOk result (string_bytes out.new ≡ string_bytes out.old ++ flat_map T.text lines.now) }
 {
     push_first(out, lines, lines.len())?;
     Ok(())

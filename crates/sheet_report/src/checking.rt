@@ -39,7 +39,7 @@ fn study_trace<M: SetMap + Copy>(
     trace: &[u8],
 ) -> Result<Sheet, AllocError>
     requires { length trace.now ≤ 65536 }
-    ensures { IfOk result (λ x. content_of x ≡ unless_settings (settings_refusal (meaning map) (settings_of sizes)) (studied (meaning map) (settings_of sizes) (text_items trace.now))) }
+    ensures { IfOk result (λ x. content_of x ≡ unless_settings (settings_refusal (M.meaning map) (settings_of sizes)) (studied (M.meaning map) (settings_of sizes) (text_items trace.now))) }
 {
     let tables = OwnTables::new(heap, ENTRIES, KNOWN, MARKS, COUNTERS)?;
     match SheetStudy::set_up(map, sizes, tables) {

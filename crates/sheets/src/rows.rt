@@ -27,7 +27,7 @@ fn figures_of<M: SetMap>(
 ) -> Figures
     requires long { short study.now.settings (tables_of entries.now known.now marks.now counters.now) ≡ false }
     requires asked { (1 ≤ p) × (p ≤ study.now.settings.processors) × (level < study.now.settings.levels) × (1 ≤ ways) × (ways ≤ study.now.settings.ways) }
-    ensures { counted (meaning study.now.map) study.now.settings (tables_of entries.now known.now marks.now counters.now) p level ways ≡ Ok result }
+    ensures { counted (M.meaning study.now.map) study.now.settings (tables_of entries.now known.now marks.now counters.now) p level ways ≡ Ok result }
 {
     match study.count(p, level, ways, entries, known, marks, counters) {
         Ok(figures) => figures,
@@ -49,8 +49,8 @@ fn push_ways<M: SetMap>(
     counters: &[u32],
 ) -> Result<(), AllocError>
     requires long { short study.now.settings (tables_of entries.now known.now marks.now counters.now) ≡ false }
-    requires asked { (1 ≤ p) × (p ≤ study.now.settings.processors) × (level < study.now.settings.levels) × (most ≤ study.now.settings.ways) × (sets ≡ (meaning study.now.map).sets (offered (meaning study.now.map) level)) }
-    ensures { OnOk result (Shows (meaning study.now.map) study.now.settings (tables_of entries.now known.now marks.now counters.now) (λ h. rows.new.items ≡ rows.old.items ++ ways_rows (meaning study.now.map) h p level most)) }
+    requires asked { (1 ≤ p) × (p ≤ study.now.settings.processors) × (level < study.now.settings.levels) × (most ≤ study.now.settings.ways) × (sets ≡ (M.meaning study.now.map).sets (offered (M.meaning study.now.map) level)) }
+    ensures { OnOk result (Shows (M.meaning study.now.map) study.now.settings (tables_of entries.now known.now marks.now counters.now) (λ h. rows.new.items ≡ rows.old.items ++ ways_rows (M.meaning study.now.map) h p level most)) }
 {
     for n in 0..most {
         let ways = n + 1;
@@ -81,7 +81,7 @@ fn push_levels<M: SetMap>(
 ) -> Result<(), AllocError>
     requires long { short study.now.settings (tables_of entries.now known.now marks.now counters.now) ≡ false }
     requires asked { (1 ≤ p) × (p ≤ study.now.settings.processors) × (most_levels ≤ study.now.settings.levels) × (most_ways ≤ study.now.settings.ways) × (map.now ≡ study.now.map) }
-    ensures { OnOk result (Shows (meaning study.now.map) study.now.settings (tables_of entries.now known.now marks.now counters.now) (λ h. rows.new.items ≡ rows.old.items ++ level_rows (meaning study.now.map) h p most_ways most_levels)) }
+    ensures { OnOk result (Shows (M.meaning study.now.map) study.now.settings (tables_of entries.now known.now marks.now counters.now) (λ h. rows.new.items ≡ rows.old.items ++ level_rows (M.meaning study.now.map) h p most_ways most_levels)) }
 {
     for level in 0..most_levels {
         let sets = map.sets(level);
@@ -105,7 +105,7 @@ pub(super) fn list_rows<M: SetMap>(
 ) -> Result<Vec<Row>, AllocError>
     requires long { short study.now.settings (tables_of entries.now known.now marks.now counters.now) ≡ false }
     requires asked { (s ≡ study.now.settings) × (map.now ≡ study.now.map) }
-    ensures { IfOk result (λ v. Shows (meaning study.now.map) study.now.settings (tables_of entries.now known.now marks.now counters.now) (λ h. v.items ≡ rows (meaning study.now.map) h s.levels s.ways s.processors)) }
+    ensures { IfOk result (λ v. Shows (M.meaning study.now.map) study.now.settings (tables_of entries.now known.now marks.now counters.now) (λ h. v.items ≡ rows (M.meaning study.now.map) h s.levels s.ways s.processors)) }
 {
     let mut rows = Vec::new(heap);
     for n in 0..s.processors {

@@ -21,7 +21,7 @@ use trace::{Refusal, Source};
 impl<M: SetMap + Copy> SheetStudy<M> {
     // A study of these sizes on the tables, cleared; or why there is none.
     pub fn set_up(map: M, sizes: Sizes, mut tables: OwnTables) -> Result<SheetStudy<M>, Refusal>
-        ensures { elim result [ Ok x ↦ (set_up_refusal (meaning map) (settings_of sizes) (lists_of tables) ≡ None) × (x.map ≡ map) × (x.settings ≡ settings_of sizes) × HasAccepted (meaning map) x [] | Err y ↦ set_up_refusal (meaning map) (settings_of sizes) (lists_of tables) ≡ Some y ] }
+        ensures { elim result [ Ok x ↦ (set_up_refusal (M.meaning map) (settings_of sizes) (lists_of tables) ≡ None) × (x.map ≡ map) × (x.settings ≡ settings_of sizes) × HasAccepted (M.meaning map) x [] | Err y ↦ set_up_refusal (M.meaning map) (settings_of sizes) (lists_of tables) ≡ Some y ] }
     {
         let Some(settings) = settings_of(sizes) else {
             return Err(Refusal::Setting);
@@ -51,10 +51,10 @@ impl<M: SetMap + Copy> SheetStudy<M> {
         heap: Global,
         source: &mut S,
     ) -> Result<Vec<RefusedLine>, AllocError>
-        ensures through { IfOk result (λ v. PutThrough (meaning self.old.map) self.old self.new (items source.old) (answered source.old + 1) v.items) }
+        ensures through { IfOk result (λ v. PutThrough (M.meaning self.old.map) self.old self.new (S.items source.old) (S.answered source.old + 1) v.items) }
         ensures map { self.new.map ≡ self.old.map }
         ensures settings { self.new.settings ≡ self.old.settings }
-        ensures answered { OnOk result (answered source.new ≡ answered source.old + length (items source.old)) }
+        ensures answered { OnOk result (S.answered source.new ≡ S.answered source.old + length (S.items source.old)) }
     {
         let mut faults = Faults {
             list: Vec::new(heap),
@@ -75,7 +75,7 @@ impl<M: SetMap + Copy> SheetStudy<M> {
 
     // Closes the study, and gives a row for each processor, level and number of ways. Only want of memory is an error.
     pub fn finish(self, heap: Global) -> Result<Vec<Row>, AllocError>
-        ensures { IfOk result (λ v. (h : History) → HasAccepted (meaning self.map) self h → v.items ≡ rows (meaning self.map) h self.settings.levels self.settings.ways self.settings.processors) }
+        ensures { IfOk result (λ v. (h : History) → HasAccepted (M.meaning self.map) self h → v.items ≡ rows (M.meaning self.map) h self.settings.levels self.settings.ways self.settings.processors) }
     {
         let SheetStudy {
             map,

@@ -10,7 +10,7 @@ use trace::Block;
 // How many frames one processor has.
 pub(super) fn cache_frames<M: SetMap>(map: &M, s: Settings) -> usize
     requires { Limited s }
-    ensures value { result ≡ cache_frames (meaning map.now) s }
+    ensures value { result ≡ cache_frames (M.meaning map.now) s }
     ensures small { result ≤ 2 ^ 36 }
 {
     map.sets(s.level) as usize * s.ways as usize
@@ -19,8 +19,8 @@ pub(super) fn cache_frames<M: SetMap>(map: &M, s: Settings) -> usize
 // Where the frames of processor p's set of the block begin.
 pub(super) fn set_start<M: SetMap>(map: &M, s: Settings, p: u32, block: Block) -> usize
     requires { (Limited s) × ((1 ≤ p) × (p ≤ s.processors)) }
-    ensures value { result ≡ set_start (meaning map.now) s p (set_of (meaning map.now) s block) }
-    ensures within { result + s.ways ≤ frames_needed (meaning map.now) s }
+    ensures value { result ≡ set_start (M.meaning map.now) s p (set_of (M.meaning map.now) s block) }
+    ensures within { result + s.ways ≤ frames_needed (M.meaning map.now) s }
     ensures small { result ≤ 2 ^ 43 }
 {
     (p as usize - 1) * cache_frames(map, s)
@@ -39,7 +39,7 @@ pub(super) fn counters_start(p: u32) -> usize
 // Whether a table is too short.
 pub(super) fn is_short<M: SetMap>(map: &M, s: Settings, frames: &[Frame], counters: &[u32]) -> bool
     requires { Limited s }
-    ensures { result ≡ short (meaning map.now) s (tables_of frames.now counters.now) }
+    ensures { result ≡ short (M.meaning map.now) s (tables_of frames.now counters.now) }
 {
     let processors = s.processors as usize;
     if frames.len() < processors * cache_frames(map, s) {

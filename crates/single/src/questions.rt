@@ -10,7 +10,7 @@ use trace::Refusal;
 impl<M: SetMap> SingleCache<M> {
     // What has been counted of processor p's cache.
     pub fn tally(&self, p: u32, frames: &[Frame], counters: &[u32]) -> Result<Tallies, Refusal>
-        ensures { result ≡ tallied (meaning self.now.map) self.now.settings (tables_of frames.now counters.now) p }
+        ensures { result ≡ tallied (M.meaning self.now.map) self.now.settings (tables_of frames.now counters.now) p }
     {
         if is_short(&self.map, self.settings, frames, counters) {
             return Err(Refusal::ShortTable);

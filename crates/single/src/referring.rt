@@ -19,8 +19,8 @@ fn refer<M: SetMap>(
     frames: &mut [Frame],
     counters: &mut [u32],
 )
-    requires { (Limited s) × ((1 ≤ p) × ((p ≤ s.processors) × (Long (meaning map.now) s (tables_of frames.old counters.old)))) }
-    ensures { tables_of frames.new counters.new ≡ own_reference (meaning map.now) s p block (tables_of frames.old counters.old) }
+    requires { (Limited s) × ((1 ≤ p) × ((p ≤ s.processors) × (Long (M.meaning map.now) s (tables_of frames.old counters.old)))) }
+    ensures { tables_of frames.new counters.new ≡ own_reference (M.meaning map.now) s p block (tables_of frames.old counters.old) }
 {
     let at = set_start(map, s, p, block);
     let hit = touch(&mut frames[at..at + s.ways as usize], block);
@@ -40,8 +40,8 @@ fn write_to<M: SetMap>(
     frames: &mut [Frame],
     counters: &mut [u32],
 )
-    requires { (Limited s) × ((1 ≤ p) × ((p ≤ s.processors) × (Long (meaning map.now) s (tables_of frames.old counters.old)))) }
-    ensures { tables_of frames.new counters.new ≡ others_write_to (meaning map.now) s p block (tables_of frames.old counters.old) }
+    requires { (Limited s) × ((1 ≤ p) × ((p ≤ s.processors) × (Long (M.meaning map.now) s (tables_of frames.old counters.old)))) }
+    ensures { tables_of frames.new counters.new ≡ others_write_to (M.meaning map.now) s p block (tables_of frames.old counters.old) }
 {
     let at = set_start(map, s, p, block);
     if lose(&mut frames[at..at + s.ways as usize], block) {
@@ -58,8 +58,8 @@ fn write_all<M: SetMap>(
     frames: &mut [Frame],
     counters: &mut [u32],
 )
-    requires { (Limited s) × (Long (meaning map.now) s (tables_of frames.old counters.old)) }
-    ensures { tables_of frames.new counters.new ≡ others_write_all (meaning map.now) s w block s.processors (tables_of frames.old counters.old) }
+    requires { (Limited s) × (Long (M.meaning map.now) s (tables_of frames.old counters.old)) }
+    ensures { tables_of frames.new counters.new ≡ others_write_all (M.meaning map.now) s w block s.processors (tables_of frames.old counters.old) }
 {
     for n in 0..s.processors {
         let p = n + 1;
@@ -71,8 +71,8 @@ fn write_all<M: SetMap>(
 
 // An accepted reference.
 fn apply<M: SetMap>(map: &M, s: Settings, r: Reference, frames: &mut [Frame], counters: &mut [u32])
-    requires { (Limited s) × ((1 ≤ r.processor) × ((r.processor ≤ s.processors) × (Long (meaning map.now) s (tables_of frames.old counters.old)))) }
-    ensures { tables_of frames.new counters.new ≡ applied (meaning map.now) s (tables_of frames.old counters.old) r }
+    requires { (Limited s) × ((1 ≤ r.processor) × ((r.processor ≤ s.processors) × (Long (M.meaning map.now) s (tables_of frames.old counters.old)))) }
+    ensures { tables_of frames.new counters.new ≡ applied (M.meaning map.now) s (tables_of frames.old counters.old) r }
 {
     let block = Block::of(r.address, s.shift);
     refer(map, s, r.processor, block, frames, counters);
@@ -86,7 +86,7 @@ fn apply<M: SetMap>(map: &M, s: Settings, r: Reference, frames: &mut [Frame], co
 impl<M: SetMap> SingleCache<M> {
     // The first refusal of a reference by processor p.
     fn refuse_reference(&self, p: u32, frames: &[Frame], counters: &[u32]) -> Option<Refusal>
-        ensures { result ≡ reference_refusal (meaning self.now.map) self.now.settings self.now.accepted (tables_of frames.now counters.now) p }
+        ensures { result ≡ reference_refusal (M.meaning self.now.map) self.now.settings self.now.accepted (tables_of frames.now counters.now) p }
     {
         if is_short(&self.map, self.settings, frames, counters) {
             return Some(Refusal::ShortTable);
@@ -107,9 +107,9 @@ impl<M: SetMap> SingleCache<M> {
         frames: &mut [Frame],
         counters: &mut [u32],
     ) -> Result<(), Refusal>
-        ensures answer { result ≡ (referenced (meaning self.old.map) self.old.settings self.old.accepted (tables_of frames.old counters.old) r).answer }
-        ensures accepted { self.new.accepted ≡ (referenced (meaning self.old.map) self.old.settings self.old.accepted (tables_of frames.old counters.old) r).accepted }
-        ensures tables { tables_of frames.new counters.new ≡ (referenced (meaning self.old.map) self.old.settings self.old.accepted (tables_of frames.old counters.old) r).tables }
+        ensures answer { result ≡ (referenced (M.meaning self.old.map) self.old.settings self.old.accepted (tables_of frames.old counters.old) r).answer }
+        ensures accepted { self.new.accepted ≡ (referenced (M.meaning self.old.map) self.old.settings self.old.accepted (tables_of frames.old counters.old) r).accepted }
+        ensures tables { tables_of frames.new counters.new ≡ (referenced (M.meaning self.old.map) self.old.settings self.old.accepted (tables_of frames.old counters.old) r).tables }
         ensures map { self.new.map ≡ self.old.map }
         ensures settings { self.new.settings ≡ self.old.settings }
     {

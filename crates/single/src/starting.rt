@@ -13,7 +13,7 @@ use trace::Refusal;
 
 // The sizes of the tables to lend, or why a set-up would refuse the settings whatever the tables.
 pub fn table_sizes<M: SetMap>(map: &M, s: Settings) -> Result<TableSizes, Refusal>
-    ensures { result ≡ sized (meaning map.now) s }
+    ensures { result ≡ sized (M.meaning map.now) s }
 {
     if is_unlimited(s) {
         return Err(Refusal::Setting);
@@ -30,8 +30,8 @@ pub fn table_sizes<M: SetMap>(map: &M, s: Settings) -> Result<TableSizes, Refusa
 
 // Empties and zeroes what a cache uses of the tables.
 fn clear_tables<M: SetMap>(map: &M, s: Settings, frames: &mut [Frame], counters: &mut [u32])
-    requires { (Limited s) × (Long (meaning map.now) s (tables_of frames.old counters.old)) }
-    ensures { tables_of frames.new counters.new ≡ cleared (meaning map.now) s (tables_of frames.old counters.old) }
+    requires { (Limited s) × (Long (M.meaning map.now) s (tables_of frames.old counters.old)) }
+    ensures { tables_of frames.new counters.new ≡ cleared (M.meaning map.now) s (tables_of frames.old counters.old) }
 {
     let processors = s.processors as usize;
     fill(&mut frames[0..processors * cache_frames(map, s)], None);
@@ -46,9 +46,9 @@ impl<M: SetMap> SingleCache<M> {
         frames: &mut [Frame],
         counters: &mut [u32],
     ) -> Result<SingleCache<M>, Refused<M>>
-        ensures answer { elim result [ Ok o ↦ (set_up_refusal (meaning map) s (tables_of frames.old counters.old) ≡ None) × (o.map ≡ map) × (o.settings ≡ s) × (o.accepted ≡ 0) | Err x ↦ (set_up_refusal (meaning map) s (tables_of frames.old counters.old) ≡ Some x.refusal) × (x.map ≡ map) ] }
-        ensures tables { tables_of frames.new counters.new ≡ elim result [ Ok o ↦ cleared (meaning map) s (tables_of frames.old counters.old) | Err x ↦ tables_of frames.old counters.old ] }
-        ensures faithful { AsSeparate (meaning map) s }
+        ensures answer { elim result [ Ok o ↦ (set_up_refusal (M.meaning map) s (tables_of frames.old counters.old) ≡ None) × (o.map ≡ map) × (o.settings ≡ s) × (o.accepted ≡ 0) | Err x ↦ (set_up_refusal (M.meaning map) s (tables_of frames.old counters.old) ≡ Some x.refusal) × (x.map ≡ map) ] }
+        ensures tables { tables_of frames.new counters.new ≡ elim result [ Ok o ↦ cleared (M.meaning map) s (tables_of frames.old counters.old) | Err x ↦ tables_of frames.old counters.old ] }
+        ensures faithful { AsSeparate (M.meaning map) s }
     {
         SingleCache::start(map, s, frames, counters)
     }
@@ -60,8 +60,8 @@ impl<M: SetMap> SingleCache<M> {
         frames: &mut [Frame],
         counters: &mut [u32],
     ) -> Result<SingleCache<M>, Refused<M>>
-        ensures answer { elim result [ Ok o ↦ (set_up_refusal (meaning map) s (tables_of frames.old counters.old) ≡ None) × (o.map ≡ map) × (o.settings ≡ s) × (o.accepted ≡ 0) | Err x ↦ (set_up_refusal (meaning map) s (tables_of frames.old counters.old) ≡ Some x.refusal) × (x.map ≡ map) ] }
-        ensures tables { tables_of frames.new counters.new ≡ elim result [ Ok o ↦ cleared (meaning map) s (tables_of frames.old counters.old) | Err x ↦ tables_of frames.old counters.old ] }
+        ensures answer { elim result [ Ok o ↦ (set_up_refusal (M.meaning map) s (tables_of frames.old counters.old) ≡ None) × (o.map ≡ map) × (o.settings ≡ s) × (o.accepted ≡ 0) | Err x ↦ (set_up_refusal (M.meaning map) s (tables_of frames.old counters.old) ≡ Some x.refusal) × (x.map ≡ map) ] }
+        ensures tables { tables_of frames.new counters.new ≡ elim result [ Ok o ↦ cleared (M.meaning map) s (tables_of frames.old counters.old) | Err x ↦ tables_of frames.old counters.old ] }
     {
         if is_unlimited(s) {
             return Err(Refused {

@@ -35,9 +35,9 @@ fn spot_with<M: SetMap + Drop>(
     frames: &mut [Frame],
     counters: &mut [u32],
 ) -> Result<Report, AllocError>
-    requires accepted { set_up_refusal (meaning map) s (tables_of frames.old counters.old) ≡ None }
+    requires accepted { set_up_refusal (M.meaning map) s (tables_of frames.old counters.old) ≡ None }
     requires few { length trace.now ≤ 65536 }
-    ensures { IfOk result (λ x. content_of x ≡ spotted_on (meaning map) s (text_items trace.now)) }
+    ensures { IfOk result (λ x. content_of x ≡ spotted_on (M.meaning map) s (text_items trace.now)) }
 {
     match SingleCache::set_up(map, s, frames, counters) {
         Ok(mut cache) => {
@@ -59,7 +59,7 @@ fn spot_trace<M: SetMap + Drop>(
     trace: &[u8],
 ) -> Result<Report, AllocError>
     requires { length trace.now ≤ 65536 }
-    ensures { IfOk result (λ x. content_of x ≡ unless_settings (settings_refusal (meaning map) s) (spotted_on (meaning map) s (text_items trace.now))) }
+    ensures { IfOk result (λ x. content_of x ≡ unless_settings (settings_refusal (M.meaning map) s) (spotted_on (M.meaning map) s (text_items trace.now))) }
 {
     match table_sizes(&map, s) {
         Err(refusal) => Ok(alone(1, refusal)),

@@ -22,15 +22,15 @@ pub(super) fn feed<M: SetMap, S: Source>(
     frames: &mut [Frame],
     counters: &mut [u32],
 ) -> Result<Fed, Fault>
-    requires long { short (meaning cache.old.map) cache.old.settings (tables_of frames.old counters.old) ≡ false }
+    requires long { short (M.meaning cache.old.map) cache.old.settings (tables_of frames.old counters.old) ≡ false }
     requires room { cache.old.accepted < 2 ^ 32 - 1 }
-    ensures answer { result ≡ fed_answer cache.old.settings (items source.old) (answered source.old + 1) }
-    ensures accepted { cache.new.accepted ≡ fed_accepted cache.old.settings (items source.old) cache.old.accepted }
-    ensures tables { tables_of frames.new counters.new ≡ fed_tables (meaning cache.old.map) cache.old.settings (items source.old) (tables_of frames.old counters.old) }
+    ensures answer { result ≡ fed_answer cache.old.settings (S.items source.old) (S.answered source.old + 1) }
+    ensures accepted { cache.new.accepted ≡ fed_accepted cache.old.settings (S.items source.old) cache.old.accepted }
+    ensures tables { tables_of frames.new counters.new ≡ fed_tables (M.meaning cache.old.map) cache.old.settings (S.items source.old) (tables_of frames.old counters.old) }
     ensures map { cache.new.map ≡ cache.old.map }
     ensures settings { cache.new.settings ≡ cache.old.settings }
-    ensures items { items source.new ≡ drop 1 (items source.old) }
-    ensures answered { answered source.new + length (items source.new) ≡ answered source.old + length (items source.old) }
+    ensures items { S.items source.new ≡ drop 1 (S.items source.old) }
+    ensures answered { S.answered source.new + length (S.items source.new) ≡ S.answered source.old + length (S.items source.old) }
 {
     let next = source.next()?;
     match next {
@@ -62,10 +62,10 @@ pub(super) fn feed_all<M: SetMap, S: Source>(
     counters: &mut [u32],
     refused: &mut Vec<RefusedLine>,
 ) -> Result<(), AllocError>
-    requires long { short (meaning cache.old.map) cache.old.settings (tables_of frames.old counters.old) ≡ false }
-    requires room { cache.old.accepted + length (items source.old) < 2 ^ 32 - 1 }
-    requires few { answered source.old + length (items source.old) < 2 ^ 32 }
-    ensures through { OnOk result (PutThrough (meaning cache.old.map) cache.old.settings (items source.old) (answered source.old + 2) cache.old.accepted (tables_of frames.old counters.old) refused.old.items cache.new.accepted (tables_of frames.new counters.new) refused.new.items) }
+    requires long { short (M.meaning cache.old.map) cache.old.settings (tables_of frames.old counters.old) ≡ false }
+    requires room { cache.old.accepted + length (S.items source.old) < 2 ^ 32 - 1 }
+    requires few { S.answered source.old + length (S.items source.old) < 2 ^ 32 }
+    ensures through { OnOk result (PutThrough (M.meaning cache.old.map) cache.old.settings (S.items source.old) (S.answered source.old + 2) cache.old.accepted (tables_of frames.old counters.old) refused.old.items cache.new.accepted (tables_of frames.new counters.new) refused.new.items) }
     ensures map { cache.new.map ≡ cache.old.map }
     ensures settings { cache.new.settings ≡ cache.old.settings }
 {

@@ -17,9 +17,9 @@ fn tally_of<M: SetMap>(
     frames: &[Frame],
     counters: &[u32],
 ) -> Tallies
-    requires long { short (meaning cache.now.map) cache.now.settings (tables_of frames.now counters.now) ≡ false }
+    requires long { short (M.meaning cache.now.map) cache.now.settings (tables_of frames.now counters.now) ≡ false }
     requires within { (1 ≤ p) × (p ≤ cache.now.settings.processors) }
-    ensures { tallied (meaning cache.now.map) cache.now.settings (tables_of frames.now counters.now) p ≡ Ok result }
+    ensures { tallied (M.meaning cache.now.map) cache.now.settings (tables_of frames.now counters.now) p ≡ Ok result }
 {
     match cache.tally(p, frames, counters) {
         Ok(tallies) => tallies,
@@ -35,9 +35,9 @@ pub(super) fn list_rows<M: SetMap>(
     frames: &[Frame],
     counters: &[u32],
 ) -> Result<Vec<Row>, AllocError>
-    requires long { short (meaning cache.now.map) cache.now.settings (tables_of frames.now counters.now) ≡ false }
+    requires long { short (M.meaning cache.now.map) cache.now.settings (tables_of frames.now counters.now) ≡ false }
     requires within { processors ≡ cache.now.settings.processors }
-    ensures { IfOk result (λ v. (t₀ : Tables) (h : History) → AsSeparate (meaning cache.now.map) cache.now.settings → Reached (meaning cache.now.map) cache.now.settings t₀ h cache.now.accepted (tables_of frames.now counters.now) → v.items ≡ rows (meaning cache.now.map) cache.now.settings h processors) }
+    ensures { IfOk result (λ v. (t₀ : Tables) (h : History) → AsSeparate (M.meaning cache.now.map) cache.now.settings → Reached (M.meaning cache.now.map) cache.now.settings t₀ h cache.now.accepted (tables_of frames.now counters.now) → v.items ≡ rows (M.meaning cache.now.map) cache.now.settings h processors) }
 {
     let mut rows = Vec::new(heap);
     for n in 0..processors {

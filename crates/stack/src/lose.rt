@@ -20,7 +20,7 @@ fn lost(q: Block, levels: u32) -> Entry
 // Another processor's write of q, in a study of so many levels: q is lost, and its positions at the levels are answered.
 pub fn lose<M: SetMap>(es: &mut [Entry], q: Block, levels: u32, map: &M) -> Walk
     ensures stretch { es.new ≡ restack (dropped levels q (stack es.old)) es.old }
-    ensures walk { Walked (meaning map.now) q es.old result }
+    ensures walk { Walked (M.meaning map.now) q es.old result }
 {
     let walk = walk_to(es, q, map);
     if walk.found {

@@ -16,7 +16,7 @@ pub(super) struct Met {
 
 // A marker of b with the levels v, on the way to q, where the markers above gave up `given`.
 pub(super) fn meet<M: SetMap>(q: Block, b: Block, v: Levels, given: Levels, map: &M) -> Met
-    ensures counts { result.counts ≡ both v (below (shared (meaning map.now) q.number b.number)) }
+    ensures counts { result.counts ≡ both v (below (shared (M.meaning map.now) q.number b.number)) }
     ensures gives { result.gives ≡ less result.counts given }
     ensures keeps { result.keeps ≡ less v result.gives }
 {

@@ -62,8 +62,8 @@ pub(super) fn rest_start(walk: &Walk) -> usize
 
 // Whether the stack after an own reference to q fits into the stretch. Only a stack that would grow is walked to its end.
 pub(super) fn fits<M: SetMap>(es: &[Entry], q: Block, map: &M, walk: &Walk) -> bool
-    requires { Walked (meaning map.now) q es.now walk.now }
-    ensures { result ≡ has_room (meaning map.now) q es.now }
+    requires { Walked (M.meaning map.now) q es.now walk.now }
+    ensures { result ≡ has_room (M.meaning map.now) q es.now }
 {
     let rest = rest_start(walk);
     if packed_len(walk) < rest {
@@ -75,7 +75,7 @@ pub(super) fn fits<M: SetMap>(es: &[Entry], q: Block, map: &M, walk: &Walk) -> b
 
 // How many entries the stack would have after an own reference to q.
 pub fn entries_after<M: SetMap>(es: &[Entry], q: Block, map: &M) -> usize
-    ensures { result ≡ length (touched (meaning map.now) q (stack es.now)) }
+    ensures { result ≡ length (touched (M.meaning map.now) q (stack es.now)) }
 {
     let walk = walk_to(es, q, map);
     let rest = rest_start(&walk);

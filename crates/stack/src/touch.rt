@@ -53,7 +53,7 @@ fn raise(es: &mut [Entry], q: Block, to: usize, rest: usize)
 // Takes from the markers among the first `place` entries what they give up to q.
 fn thin<M: SetMap>(es: &mut [Entry], place: usize, q: Block, map: &M)
     requires { place ≤ length es.old }
-    ensures { es.new ≡ over (thinned (meaning map.now) q no_level (take place es.old)) es.old }
+    ensures { es.new ≡ over (thinned (M.meaning map.now) q no_level (take place es.old)) es.old }
 {
     let mut given = Levels::none();
     let mut to = 0;
@@ -77,8 +77,8 @@ fn thin<M: SetMap>(es: &mut [Entry], place: usize, q: Block, map: &M)
 
 // Nothing is to be thinned where each entry above stays and no marker gives up a level.
 fn thin_above<M: SetMap>(es: &mut [Entry], q: Block, map: &M, walk: &Walk)
-    requires { Walked (meaning map.now) q es.old walk.now }
-    ensures { es.new ≡ over (thinned (meaning map.now) q no_level (above q es.old)) es.old }
+    requires { Walked (M.meaning map.now) q es.old walk.now }
+    ensures { es.new ≡ over (thinned (M.meaning map.now) q no_level (above q es.old)) es.old }
 {
     if walk.stays < walk.place || !walk.given.is_none() {
         thin(es, walk.place, q, map);
@@ -94,8 +94,8 @@ fn put_marker(es: &mut [Entry], at: usize, q: Block, levels: Levels)
 
 // Brings what the new top will stand on to the front.
 fn pack<M: SetMap>(es: &mut [Entry], q: Block, map: &M, walk: &Walk)
-    requires { Walked (meaning map.now) q es.old walk.now }
-    ensures { es.new ≡ over (packed (meaning map.now) q es.old) es.old }
+    requires { Walked (M.meaning map.now) q es.old walk.now }
+    ensures { es.new ≡ over (packed (M.meaning map.now) q es.old) es.old }
 {
     thin_above(es, q, map, walk);
     if leaves_marker(walk) {
@@ -105,9 +105,9 @@ fn pack<M: SetMap>(es: &mut [Entry], q: Block, map: &M, walk: &Walk)
 
 // An own reference to q, after the walk to it.
 fn touch_at<M: SetMap>(es: &mut [Entry], q: Block, map: &M, walk: &Walk)
-    requires walked { Walked (meaning map.now) q es.old walk.now }
-    requires fits { length (touched (meaning map.now) q (stack es.old)) ≤ length es.old }
-    ensures { es.new ≡ restack (touched (meaning map.now) q (stack es.old)) es.old }
+    requires walked { Walked (M.meaning map.now) q es.old walk.now }
+    requires fits { length (touched (M.meaning map.now) q (stack es.old)) ≤ length es.old }
+    ensures { es.new ≡ restack (touched (M.meaning map.now) q (stack es.old)) es.old }
 {
     pack(es, q, map, walk);
     raise(es, q, packed_len(walk), rest_start(walk));
@@ -115,8 +115,8 @@ fn touch_at<M: SetMap>(es: &mut [Entry], q: Block, map: &M, walk: &Walk)
 
 // An own reference to q, by one walk. Where the stack would not fit into the stretch, nothing is altered.
 pub fn touch<M: SetMap>(es: &mut [Entry], q: Block, map: &M) -> Option<Walk>
-    ensures stretch { es.new ≡ after (meaning map.now) q es.old }
-    ensures answer { Answered (meaning map.now) q es.old result }
+    ensures stretch { es.new ≡ after (M.meaning map.now) q es.old }
+    ensures answer { Answered (M.meaning map.now) q es.old result }
 {
     let walk = walk_to(es, q, map);
     if fits(es, q, map, &walk) {

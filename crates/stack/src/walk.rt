@@ -43,7 +43,7 @@ fn count_levels(counts: &mut [usize], levels: Levels)
 
 // One pass down to the block, or to the end of the stack.
 fn count_above<M: SetMap>(es: &[Entry], q: Block, map: &M) -> Tally
-    ensures { Counted (meaning map.now) q es.now result }
+    ensures { Counted (M.meaning map.now) q es.now result }
 {
     let mut sharing = [0; 18];
     let mut markers = [0; 17];
@@ -108,7 +108,7 @@ fn sum_levels(sharing: &[usize], markers: &[usize]) -> [usize; 17]
 
 // One walk from the top down to q, or to the end of the stack. It gives the position at every level at once.
 pub fn walk_to<M: SetMap>(es: &[Entry], q: Block, map: &M) -> Walk
-    ensures { Walked (meaning map.now) q es.now result }
+    ensures { Walked (M.meaning map.now) q es.now result }
 {
     let Tally {
         place,

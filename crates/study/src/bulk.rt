@@ -20,7 +20,7 @@ use trace::{Block, Fault, Layer, Reference, Refusal, Sink, Source};
 
 // Hands a feed's fault on; whether the source goes on.
 fn hand_on<K: Sink>(answer: Result<Fed, Fault>, faults: &mut K) -> Result<bool, Fault>
-    ensures { Handed (taken faults.old) answer result (taken faults.new) }
+    ensures { Handed (K.taken faults.old) answer result (K.taken faults.new) }
 {
     match answer {
         Ok(fed) => match fed {
@@ -47,7 +47,7 @@ impl<M: SetMap> OpenStudy<M> {
     ) -> Result<usize, Refusal>
         requires long { Long self.now.settings (tables_of entries.now known.now marks.now counters.now) }
         requires ordered { InOrder self.now.settings self.now.known (tables_of entries.now known.now marks.now counters.now) }
-        ensures { Found (meaning self.now.map) self.now.settings (kept_of self.now.known self.now.accepted) (tables_of entries.now known.now marks.now counters.now) r result }
+        ensures { Found (M.meaning self.now.map) self.now.settings (kept_of self.now.known self.now.accepted) (tables_of entries.now known.now marks.now counters.now) r result }
     {
         let s = self.settings;
         if self.accepted == u32::MAX {
@@ -76,9 +76,9 @@ impl<M: SetMap> OpenStudy<M> {
     ) -> Result<(), Refusal>
         requires long { Long self.old.settings (tables_of entries.old known.old marks.old counters.old) }
         requires ordered { InOrder self.old.settings self.old.known (tables_of entries.old known.old marks.old counters.old) }
-        ensures answer { result ≡ (referenced (meaning self.old.map) self.old.settings (kept_of self.old.known self.old.accepted) (tables_of entries.old known.old marks.old counters.old) r).answer }
-        ensures kept { kept_of self.new.known self.new.accepted ≡ (referenced (meaning self.old.map) self.old.settings (kept_of self.old.known self.old.accepted) (tables_of entries.old known.old marks.old counters.old) r).kept }
-        ensures tables { (tables_of entries.new known.new marks.new counters.new) ≡ (referenced (meaning self.old.map) self.old.settings (kept_of self.old.known self.old.accepted) (tables_of entries.old known.old marks.old counters.old) r).tables }
+        ensures answer { result ≡ (referenced (M.meaning self.old.map) self.old.settings (kept_of self.old.known self.old.accepted) (tables_of entries.old known.old marks.old counters.old) r).answer }
+        ensures kept { kept_of self.new.known self.new.accepted ≡ (referenced (M.meaning self.old.map) self.old.settings (kept_of self.old.known self.old.accepted) (tables_of entries.old known.old marks.old counters.old) r).kept }
+        ensures tables { (tables_of entries.new known.new marks.new counters.new) ≡ (referenced (M.meaning self.old.map) self.old.settings (kept_of self.old.known self.old.accepted) (tables_of entries.old known.old marks.old counters.old) r).tables }
         ensures map { self.new.map ≡ self.old.map }
         ensures settings { self.new.settings ≡ self.old.settings }
         ensures ordered { InOrder self.new.settings self.new.known (tables_of entries.new known.new marks.new counters.new) }
@@ -112,9 +112,9 @@ impl<M: SetMap> OpenStudy<M> {
     ) -> Result<(), Refusal>
         requires long { Long self.old.settings (tables_of entries.old known.old marks.old counters.old) }
         requires ordered { ordered ≡ true → InOrder self.old.settings self.old.known (tables_of entries.old known.old marks.old counters.old) }
-        ensures answer { result ≡ (referenced (meaning self.old.map) self.old.settings (kept_of self.old.known self.old.accepted) (tables_of entries.old known.old marks.old counters.old) r).answer }
-        ensures kept { kept_of self.new.known self.new.accepted ≡ (referenced (meaning self.old.map) self.old.settings (kept_of self.old.known self.old.accepted) (tables_of entries.old known.old marks.old counters.old) r).kept }
-        ensures tables { (tables_of entries.new known.new marks.new counters.new) ≡ (referenced (meaning self.old.map) self.old.settings (kept_of self.old.known self.old.accepted) (tables_of entries.old known.old marks.old counters.old) r).tables }
+        ensures answer { result ≡ (referenced (M.meaning self.old.map) self.old.settings (kept_of self.old.known self.old.accepted) (tables_of entries.old known.old marks.old counters.old) r).answer }
+        ensures kept { kept_of self.new.known self.new.accepted ≡ (referenced (M.meaning self.old.map) self.old.settings (kept_of self.old.known self.old.accepted) (tables_of entries.old known.old marks.old counters.old) r).kept }
+        ensures tables { (tables_of entries.new known.new marks.new counters.new) ≡ (referenced (M.meaning self.old.map) self.old.settings (kept_of self.old.known self.old.accepted) (tables_of entries.old known.old marks.old counters.old) r).tables }
         ensures map { self.new.map ≡ self.old.map }
         ensures settings { self.new.settings ≡ self.old.settings }
         ensures ordered { ordered ≡ true → InOrder self.new.settings self.new.known (tables_of entries.new known.new marks.new counters.new) }
@@ -139,13 +139,13 @@ impl<M: SetMap> OpenStudy<M> {
     ) -> Result<Fed, Fault>
         requires long { Long self.old.settings (tables_of entries.old known.old marks.old counters.old) }
         requires ordered { ordered ≡ true → InOrder self.old.settings self.old.known (tables_of entries.old known.old marks.old counters.old) }
-        ensures answer { result ≡ (fed_first (meaning self.old.map) self.old.settings (kept_of self.old.known self.old.accepted) (tables_of entries.old known.old marks.old counters.old) (items source.old) (answered source.old)).answer }
-        ensures kept { kept_of self.new.known self.new.accepted ≡ (fed_first (meaning self.old.map) self.old.settings (kept_of self.old.known self.old.accepted) (tables_of entries.old known.old marks.old counters.old) (items source.old) (answered source.old)).kept }
-        ensures tables { (tables_of entries.new known.new marks.new counters.new) ≡ (fed_first (meaning self.old.map) self.old.settings (kept_of self.old.known self.old.accepted) (tables_of entries.old known.old marks.old counters.old) (items source.old) (answered source.old)).tables }
+        ensures answer { result ≡ (fed_first (M.meaning self.old.map) self.old.settings (kept_of self.old.known self.old.accepted) (tables_of entries.old known.old marks.old counters.old) (S.items source.old) (S.answered source.old)).answer }
+        ensures kept { kept_of self.new.known self.new.accepted ≡ (fed_first (M.meaning self.old.map) self.old.settings (kept_of self.old.known self.old.accepted) (tables_of entries.old known.old marks.old counters.old) (S.items source.old) (S.answered source.old)).kept }
+        ensures tables { (tables_of entries.new known.new marks.new counters.new) ≡ (fed_first (M.meaning self.old.map) self.old.settings (kept_of self.old.known self.old.accepted) (tables_of entries.old known.old marks.old counters.old) (S.items source.old) (S.answered source.old)).tables }
         ensures map { self.new.map ≡ self.old.map }
         ensures settings { self.new.settings ≡ self.old.settings }
-        ensures items { items source.new ≡ drop 1 (items source.old) }
-        ensures answered { answered source.new + length (items source.new) ≡ answered source.old + length (items source.old) }
+        ensures items { S.items source.new ≡ drop 1 (S.items source.old) }
+        ensures answered { S.answered source.new + length (S.items source.new) ≡ S.answered source.old + length (S.items source.old) }
         ensures ordered { ordered ≡ true → InOrder self.new.settings self.new.known (tables_of entries.new known.new marks.new counters.new) }
     {
         let next = source.next()?;
@@ -171,7 +171,7 @@ impl<M: SetMap> OpenStudy<M> {
     ) -> Result<(), Fault>
         requires enough { short self.old.settings (tables_of entries.old known.old marks.old counters.old) ≡ false }
         requires long { Long self.old.settings (tables_of entries.old known.old marks.old counters.old) }
-        ensures through { FedThrough (meaning self.old.map) self.old.settings (standing_of (kept_of self.old.known self.old.accepted) (tables_of entries.old known.old marks.old counters.old) (items source.old) (answered source.old) (taken faults.old)) (standing_of (kept_of self.new.known self.new.accepted) (tables_of entries.new known.new marks.new counters.new) (items source.new) (answered source.new) (taken faults.new)) result }
+        ensures through { FedThrough (M.meaning self.old.map) self.old.settings (standing_of (kept_of self.old.known self.old.accepted) (tables_of entries.old known.old marks.old counters.old) (S.items source.old) (S.answered source.old) (K.taken faults.old)) (standing_of (kept_of self.new.known self.new.accepted) (tables_of entries.new known.new marks.new counters.new) (S.items source.new) (S.answered source.new) (K.taken faults.new)) result }
         ensures map { self.new.map ≡ self.old.map }
         ensures settings { self.new.settings ≡ self.old.settings }
     {
@@ -205,7 +205,7 @@ impl<M: SetMap> OpenStudy<M> {
         counters: &mut [u32],
         faults: &mut K,
     ) -> Result<(), Fault>
-        ensures through { FedThrough (meaning self.old.map) self.old.settings (standing_of (kept_of self.old.known self.old.accepted) (tables_of entries.old known.old marks.old counters.old) (items source.old) (answered source.old) (taken faults.old)) (standing_of (kept_of self.new.known self.new.accepted) (tables_of entries.new known.new marks.new counters.new) (items source.new) (answered source.new) (taken faults.new)) result }
+        ensures through { FedThrough (M.meaning self.old.map) self.old.settings (standing_of (kept_of self.old.known self.old.accepted) (tables_of entries.old known.old marks.old counters.old) (S.items source.old) (S.answered source.old) (K.taken faults.old)) (standing_of (kept_of self.new.known self.new.accepted) (tables_of entries.new known.new marks.new counters.new) (S.items source.new) (S.answered source.new) (K.taken faults.new)) result }
         ensures map { self.new.map ≡ self.old.map }
         ensures settings { self.new.settings ≡ self.old.settings }
     {

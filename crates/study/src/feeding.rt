@@ -36,9 +36,9 @@ impl<M: SetMap> OpenStudy<M> {
         marks: &mut [Mark],
         counters: &mut [u32],
     ) -> Result<Fed, Fault>
-        ensures answer { result ≡ (fed_item (meaning self.old.map) self.old.settings (kept_of self.old.known self.old.accepted) (tables_of entries.old known.old marks.old counters.old) (reference r) n).answer }
-        ensures kept { kept_of self.new.known self.new.accepted ≡ (fed_item (meaning self.old.map) self.old.settings (kept_of self.old.known self.old.accepted) (tables_of entries.old known.old marks.old counters.old) (reference r) n).kept }
-        ensures tables { tables_of entries.new known.new marks.new counters.new ≡ (fed_item (meaning self.old.map) self.old.settings (kept_of self.old.known self.old.accepted) (tables_of entries.old known.old marks.old counters.old) (reference r) n).tables }
+        ensures answer { result ≡ (fed_item (M.meaning self.old.map) self.old.settings (kept_of self.old.known self.old.accepted) (tables_of entries.old known.old marks.old counters.old) (reference r) n).answer }
+        ensures kept { kept_of self.new.known self.new.accepted ≡ (fed_item (M.meaning self.old.map) self.old.settings (kept_of self.old.known self.old.accepted) (tables_of entries.old known.old marks.old counters.old) (reference r) n).kept }
+        ensures tables { tables_of entries.new known.new marks.new counters.new ≡ (fed_item (M.meaning self.old.map) self.old.settings (kept_of self.old.known self.old.accepted) (tables_of entries.old known.old marks.old counters.old) (reference r) n).tables }
         ensures map { self.new.map ≡ self.old.map }
         ensures settings { self.new.settings ≡ self.old.settings }
     {
@@ -54,13 +54,13 @@ impl<M: SetMap> OpenStudy<M> {
         marks: &mut [Mark],
         counters: &mut [u32],
     ) -> Result<Fed, Fault>
-        ensures answer { result ≡ (fed_first (meaning self.old.map) self.old.settings (kept_of self.old.known self.old.accepted) (tables_of entries.old known.old marks.old counters.old) (items source.old) (answered source.old)).answer }
-        ensures kept { kept_of self.new.known self.new.accepted ≡ (fed_first (meaning self.old.map) self.old.settings (kept_of self.old.known self.old.accepted) (tables_of entries.old known.old marks.old counters.old) (items source.old) (answered source.old)).kept }
-        ensures tables { tables_of entries.new known.new marks.new counters.new ≡ (fed_first (meaning self.old.map) self.old.settings (kept_of self.old.known self.old.accepted) (tables_of entries.old known.old marks.old counters.old) (items source.old) (answered source.old)).tables }
+        ensures answer { result ≡ (fed_first (M.meaning self.old.map) self.old.settings (kept_of self.old.known self.old.accepted) (tables_of entries.old known.old marks.old counters.old) (S.items source.old) (S.answered source.old)).answer }
+        ensures kept { kept_of self.new.known self.new.accepted ≡ (fed_first (M.meaning self.old.map) self.old.settings (kept_of self.old.known self.old.accepted) (tables_of entries.old known.old marks.old counters.old) (S.items source.old) (S.answered source.old)).kept }
+        ensures tables { tables_of entries.new known.new marks.new counters.new ≡ (fed_first (M.meaning self.old.map) self.old.settings (kept_of self.old.known self.old.accepted) (tables_of entries.old known.old marks.old counters.old) (S.items source.old) (S.answered source.old)).tables }
         ensures map { self.new.map ≡ self.old.map }
         ensures settings { self.new.settings ≡ self.old.settings }
-        ensures items { items source.new ≡ drop 1 (items source.old) }
-        ensures answered { answered source.new + length (items source.new) ≡ answered source.old + length (items source.old) }
+        ensures items { S.items source.new ≡ drop 1 (S.items source.old) }
+        ensures answered { S.answered source.new + length (S.items source.new) ≡ S.answered source.old + length (S.items source.old) }
     {
         let next = source.next()?;
         match next {
@@ -78,13 +78,13 @@ impl<M: SetMap> OpenStudy<M> {
         marks: &mut [Mark],
         counters: &mut [u32],
     ) -> Result<Fed, Fault>
-        ensures answer { result ≡ (fed (meaning self.old.map) self.old.settings (kept_of self.old.known self.old.accepted) (tables_of entries.old known.old marks.old counters.old) (items source.old) (answered source.old)).answer }
-        ensures kept { kept_of self.new.known self.new.accepted ≡ (fed (meaning self.old.map) self.old.settings (kept_of self.old.known self.old.accepted) (tables_of entries.old known.old marks.old counters.old) (items source.old) (answered source.old)).kept }
-        ensures tables { tables_of entries.new known.new marks.new counters.new ≡ (fed (meaning self.old.map) self.old.settings (kept_of self.old.known self.old.accepted) (tables_of entries.old known.old marks.old counters.old) (items source.old) (answered source.old)).tables }
+        ensures answer { result ≡ (fed (M.meaning self.old.map) self.old.settings (kept_of self.old.known self.old.accepted) (tables_of entries.old known.old marks.old counters.old) (S.items source.old) (S.answered source.old)).answer }
+        ensures kept { kept_of self.new.known self.new.accepted ≡ (fed (M.meaning self.old.map) self.old.settings (kept_of self.old.known self.old.accepted) (tables_of entries.old known.old marks.old counters.old) (S.items source.old) (S.answered source.old)).kept }
+        ensures tables { tables_of entries.new known.new marks.new counters.new ≡ (fed (M.meaning self.old.map) self.old.settings (kept_of self.old.known self.old.accepted) (tables_of entries.old known.old marks.old counters.old) (S.items source.old) (S.answered source.old)).tables }
         ensures map { self.new.map ≡ self.old.map }
         ensures settings { self.new.settings ≡ self.old.settings }
-        ensures items { items source.new ≡ drop (used_up self.old.settings (tables_of entries.old known.old marks.old counters.old)) (items source.old) }
-        ensures answered { answered source.new + length (items source.new) ≡ answered source.old + length (items source.old) }
+        ensures items { S.items source.new ≡ drop (used_up self.old.settings (tables_of entries.old known.old marks.old counters.old)) (S.items source.old) }
+        ensures answered { S.answered source.new + length (S.items source.new) ≡ S.answered source.old + length (S.items source.old) }
     {
         if is_short(self.settings, entries, known, marks, counters) {
             return Err(Fault {

@@ -42,7 +42,7 @@ fn write_where_held<M: SetMap>(
     requires place { k ≡ place_of q (take n known.now) }
     requires long { Long s (tables_of entries.old known.now marks.old counters.old) }
     requires ordered { InOrder s n (tables_of entries.old known.now marks.old counters.old) }
-    ensures written { tables_of entries.new known.now marks.new counters.new ≡ others_write_to (meaning map.now) s p q k (tables_of entries.old known.now marks.old counters.old) }
+    ensures written { tables_of entries.new known.now marks.new counters.new ≡ others_write_to (M.meaning map.now) s p q k (tables_of entries.old known.now marks.old counters.old) }
     ensures ordered { InOrder s n (tables_of entries.new known.now marks.new counters.new) }
 {
     if has_copy(s, p, k, marks) {
@@ -68,7 +68,7 @@ fn write_in_order<M: SetMap>(
     requires place { k ≡ place_of q (take n known.now) }
     requires long { Long s (tables_of entries.old known.now marks.old counters.old) }
     requires ordered { InOrder s n (tables_of entries.old known.now marks.old counters.old) }
-    ensures written { tables_of entries.new known.now marks.new counters.new ≡ others_write_all (meaning map.now) s w q k s.processors (tables_of entries.old known.now marks.old counters.old) }
+    ensures written { tables_of entries.new known.now marks.new counters.new ≡ others_write_all (M.meaning map.now) s w q k s.processors (tables_of entries.old known.now marks.old counters.old) }
     ensures ordered { InOrder s n (tables_of entries.new known.now marks.new counters.new) }
 {
     for i in 0..s.processors {
@@ -96,7 +96,7 @@ fn refer_in_order<M: SetMap>(
     requires place { k ≡ place_of q (take n known.old) }
     requires long { Long s (tables_of entries.old known.old marks.old counters.old) }
     requires ordered { InOrder s n (tables_of entries.old known.old marks.old counters.old) }
-    ensures referred { UnlessFull (no_more_entries (meaning map.now) s (tables_of entries.old known.old marks.old counters.old) p q) (tables_of entries.old known.old marks.old counters.old) (own_reference (meaning map.now) s p q k (tables_of entries.old known.old marks.old counters.old)) result (tables_of entries.new known.new marks.new counters.new) }
+    ensures referred { UnlessFull (no_more_entries (M.meaning map.now) s (tables_of entries.old known.old marks.old counters.old) p q) (tables_of entries.old known.old marks.old counters.old) (own_reference (M.meaning map.now) s p q k (tables_of entries.old known.old marks.old counters.old)) result (tables_of entries.new known.new marks.new counters.new) }
     ensures ordered { LeftInOrder s n q k result (tables_of entries.new known.new marks.new counters.new) }
 {
     refer(map, s, p, q, k, entries, known, marks, counters)
@@ -118,7 +118,7 @@ pub(super) fn apply_in_order<M: SetMap>(
     requires place { k ≡ place_of (block_of s.shift r.address) (take n known.old) }
     requires long { Long s (tables_of entries.old known.old marks.old counters.old) }
     requires ordered { InOrder s n (tables_of entries.old known.old marks.old counters.old) }
-    ensures applied { UnlessFull (no_more_entries (meaning map.now) s (tables_of entries.old known.old marks.old counters.old) r.processor (block_of s.shift r.address)) (tables_of entries.old known.old marks.old counters.old) (applied (meaning map.now) s r k (tables_of entries.old known.old marks.old counters.old)) result (tables_of entries.new known.new marks.new counters.new) }
+    ensures applied { UnlessFull (no_more_entries (M.meaning map.now) s (tables_of entries.old known.old marks.old counters.old) r.processor (block_of s.shift r.address)) (tables_of entries.old known.old marks.old counters.old) (applied (M.meaning map.now) s r k (tables_of entries.old known.old marks.old counters.old)) result (tables_of entries.new known.new marks.new counters.new) }
     ensures ordered { LeftInOrder s n (block_of s.shift r.address) k result (tables_of entries.new known.new marks.new counters.new) }
 {
     let p = r.processor;

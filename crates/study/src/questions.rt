@@ -102,7 +102,7 @@ impl<M: SetMap> OpenStudy<M> {
         marks: &[Mark],
         counters: &[u32],
     ) -> Result<bool, Refusal>
-        ensures { result ≡ held (meaning self.now.map) self.now.settings (kept_of self.now.known self.now.accepted) (tables_of entries.now known.now marks.now counters.now) p level ways b }
+        ensures { result ≡ held (M.meaning self.now.map) self.now.settings (kept_of self.now.known self.now.accepted) (tables_of entries.now known.now marks.now counters.now) p level ways b }
     {
         let s = self.settings;
         match refuse_question(s, p, level, ways, entries, known, marks, counters) {
@@ -144,7 +144,7 @@ impl<M: SetMap> ClosedStudy<M> {
         marks: &[Mark],
         counters: &[u32],
     ) -> Result<Figures, Refusal>
-        ensures { result ≡ counted (meaning self.now.map) self.now.settings (tables_of entries.now known.now marks.now counters.now) p level ways }
+        ensures { result ≡ counted (M.meaning self.now.map) self.now.settings (tables_of entries.now known.now marks.now counters.now) p level ways }
     {
         let s = self.settings;
         match refuse_question(s, p, level, ways, entries, known, marks, counters) {

@@ -35,7 +35,7 @@ impl<M: SetMap> OpenStudy<M> {
         marks: &[Mark],
         counters: &[u32],
     ) -> Result<usize, Refusal>
-        ensures { elim result [ Ok k ↦ Placed (meaning self.now.map) self.now.settings (kept_of self.now.known self.now.accepted) (tables_of entries.now known.now marks.now counters.now) r k | Err y ↦ reference_refusal (meaning self.now.map) self.now.settings (kept_of self.now.known self.now.accepted) (tables_of entries.now known.now marks.now counters.now) r ≡ Some y ] }
+        ensures { elim result [ Ok k ↦ Placed (M.meaning self.now.map) self.now.settings (kept_of self.now.known self.now.accepted) (tables_of entries.now known.now marks.now counters.now) r k | Err y ↦ reference_refusal (M.meaning self.now.map) self.now.settings (kept_of self.now.known self.now.accepted) (tables_of entries.now known.now marks.now counters.now) r ≡ Some y ] }
     {
         let s = self.settings;
         if is_short(s, entries, known, marks, counters) {
@@ -75,9 +75,9 @@ impl<M: SetMap> OpenStudy<M> {
         marks: &mut [Mark],
         counters: &mut [u32],
     ) -> Result<(), Refusal>
-        ensures answer { result ≡ (referenced (meaning self.old.map) self.old.settings (kept_of self.old.known self.old.accepted) (tables_of entries.old known.old marks.old counters.old) r).answer }
-        ensures kept { kept_of self.new.known self.new.accepted ≡ (referenced (meaning self.old.map) self.old.settings (kept_of self.old.known self.old.accepted) (tables_of entries.old known.old marks.old counters.old) r).kept }
-        ensures tables { tables_of entries.new known.new marks.new counters.new ≡ (referenced (meaning self.old.map) self.old.settings (kept_of self.old.known self.old.accepted) (tables_of entries.old known.old marks.old counters.old) r).tables }
+        ensures answer { result ≡ (referenced (M.meaning self.old.map) self.old.settings (kept_of self.old.known self.old.accepted) (tables_of entries.old known.old marks.old counters.old) r).answer }
+        ensures kept { kept_of self.new.known self.new.accepted ≡ (referenced (M.meaning self.old.map) self.old.settings (kept_of self.old.known self.old.accepted) (tables_of entries.old known.old marks.old counters.old) r).kept }
+        ensures tables { tables_of entries.new known.new marks.new counters.new ≡ (referenced (M.meaning self.old.map) self.old.settings (kept_of self.old.known self.old.accepted) (tables_of entries.old known.old marks.old counters.old) r).tables }
         ensures map { self.new.map ≡ self.old.map }
         ensures settings { self.new.settings ≡ self.old.settings }
     {

@@ -23,7 +23,7 @@ fn refuse_set_up<M: SetMap>(
     marks: &[Mark],
     counters: &[u32],
 ) -> Option<Refusal>
-    ensures value { result ≡ set_up_refusal (meaning map.now) s (tables_of entries.now known.now marks.now counters.now) }
+    ensures value { result ≡ set_up_refusal (M.meaning map.now) s (tables_of entries.now known.now marks.now counters.now) }
     ensures limited { result ≡ None → Limited s }
     ensures long { result ≡ None → Long s (tables_of entries.now known.now marks.now counters.now) }
 {
@@ -69,9 +69,9 @@ impl<M: SetMap> OpenStudy<M> {
         marks: &mut [Mark],
         counters: &mut [u32],
     ) -> Result<OpenStudy<M>, Refused<M>>
-        ensures answer { elim result [ Ok o ↦ (set_up_refusal (meaning map) s (tables_of entries.old known.now marks.old counters.old) ≡ None) × (o.map ≡ map) × (o.settings ≡ s) × (o.known ≡ 0) × (o.accepted ≡ 0) | Err x ↦ (set_up_refusal (meaning map) s (tables_of entries.old known.now marks.old counters.old) ≡ Some x.refusal) × (x.map ≡ map) ] }
+        ensures answer { elim result [ Ok o ↦ (set_up_refusal (M.meaning map) s (tables_of entries.old known.now marks.old counters.old) ≡ None) × (o.map ≡ map) × (o.settings ≡ s) × (o.known ≡ 0) × (o.accepted ≡ 0) | Err x ↦ (set_up_refusal (M.meaning map) s (tables_of entries.old known.now marks.old counters.old) ≡ Some x.refusal) × (x.map ≡ map) ] }
         ensures tables { tables_of entries.new known.now marks.new counters.new ≡ elim result [ Ok o ↦ cleared s (tables_of entries.old known.now marks.old counters.old) | Err x ↦ tables_of entries.old known.now marks.old counters.old ] }
-        ensures faithful { Faithful (meaning map) s }
+        ensures faithful { Faithful (M.meaning map) s }
     {
         OpenStudy::start(map, s, entries, known, marks, counters)
     }
@@ -85,7 +85,7 @@ impl<M: SetMap> OpenStudy<M> {
         marks: &mut [Mark],
         counters: &mut [u32],
     ) -> Result<OpenStudy<M>, Refused<M>>
-        ensures answer { elim result [ Ok o ↦ (set_up_refusal (meaning map) s (tables_of entries.old known.now marks.old counters.old) ≡ None) × (o.map ≡ map) × (o.settings ≡ s) × (o.known ≡ 0) × (o.accepted ≡ 0) | Err x ↦ (set_up_refusal (meaning map) s (tables_of entries.old known.now marks.old counters.old) ≡ Some x.refusal) × (x.map ≡ map) ] }
+        ensures answer { elim result [ Ok o ↦ (set_up_refusal (M.meaning map) s (tables_of entries.old known.now marks.old counters.old) ≡ None) × (o.map ≡ map) × (o.settings ≡ s) × (o.known ≡ 0) × (o.accepted ≡ 0) | Err x ↦ (set_up_refusal (M.meaning map) s (tables_of entries.old known.now marks.old counters.old) ≡ Some x.refusal) × (x.map ≡ map) ] }
         ensures tables { tables_of entries.new known.now marks.new counters.new ≡ elim result [ Ok o ↦ cleared s (tables_of entries.old known.now marks.old counters.old) | Err x ↦ tables_of entries.old known.now marks.old counters.old ] }
     {
         match refuse_set_up(&map, s, entries, known, marks, counters) {

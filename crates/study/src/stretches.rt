@@ -22,7 +22,7 @@ pub(super) fn touch_part<M: SetMap>(
     entries: &mut [Entry],
 ) -> Option<Walk>
     requires { (Limited s) × ((1 ≤ p) × ((p ≤ s.processors) × (s.processors * s.entries ≤ length entries.old))) }
-    ensures { Touched (meaning map.now) s p q entries.old result entries.new }
+    ensures { Touched (M.meaning map.now) s p q entries.old result entries.new }
 {
     let n = s.entries as usize;
     let a = part_start(n, s, p);
@@ -38,7 +38,7 @@ pub(super) fn lose_part<M: SetMap>(
     entries: &mut [Entry],
 ) -> Walk
     requires { (Limited s) × ((1 ≤ p) × ((p ≤ s.processors) × (s.processors * s.entries ≤ length entries.old))) }
-    ensures walk { Walked (meaning map.now) q (own_part s p entries.old) result }
+    ensures walk { Walked (M.meaning map.now) q (own_part s p entries.old) result }
     ensures after { entries.new ≡ with_part s p (restack (dropped s.levels q (stack (own_part s p entries.old))) (own_part s p entries.old)) entries.old }
 {
     let n = s.entries as usize;
@@ -55,7 +55,7 @@ pub(super) fn walk_part<M: SetMap>(
     entries: &[Entry],
 ) -> Walk
     requires { (Limited s) × ((1 ≤ p) × ((p ≤ s.processors) × (s.processors * s.entries ≤ length entries.now))) }
-    ensures { Walked (meaning map.now) q (own_part s p entries.now) result }
+    ensures { Walked (M.meaning map.now) q (own_part s p entries.now) result }
 {
     let n = s.entries as usize;
     let a = part_start(n, s, p);

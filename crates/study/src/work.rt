@@ -57,7 +57,7 @@ pub(super) fn refer<M: SetMap>(
 ) -> Result<(), Refusal>
     requires limits { (Limited s) × ((1 ≤ p) × ((p ≤ s.processors) × (k < s.blocks))) }
     requires long { Long s (tables_of entries.old known.old marks.old counters.old) }
-    ensures { UnlessFull (no_more_entries (meaning map.now) s (tables_of entries.old known.old marks.old counters.old) p q) (tables_of entries.old known.old marks.old counters.old) (own_reference (meaning map.now) s p q k (tables_of entries.old known.old marks.old counters.old)) result (tables_of entries.new known.new marks.new counters.new) }
+    ensures { UnlessFull (no_more_entries (M.meaning map.now) s (tables_of entries.old known.old marks.old counters.old) p q) (tables_of entries.old known.old marks.old counters.old) (own_reference (M.meaning map.now) s p q k (tables_of entries.old known.old marks.old counters.old)) result (tables_of entries.new known.new marks.new counters.new) }
 {
     match touch_part(map, s, p, q, entries) {
         None => Err(Refusal::Entries),
@@ -82,7 +82,7 @@ pub(super) fn write_to<M: SetMap>(
 )
     requires limits { (Limited s) × ((1 ≤ p) × ((p ≤ s.processors) × (k < s.blocks))) }
     requires long { Long s (tables_of entries.old known.now marks.old counters.old) }
-    ensures { tables_of entries.new known.now marks.new counters.new ≡ others_write_to (meaning map.now) s p q k (tables_of entries.old known.now marks.old counters.old) }
+    ensures { tables_of entries.new known.now marks.new counters.new ≡ others_write_to (M.meaning map.now) s p q k (tables_of entries.old known.now marks.old counters.old) }
 {
     let walk = lose_part(map, s, p, q, entries);
     note(
@@ -107,7 +107,7 @@ fn write_all<M: SetMap>(
 )
     requires limits { (Limited s) × (k < s.blocks) }
     requires long { Long s (tables_of entries.old known.now marks.old counters.old) }
-    ensures { tables_of entries.new known.now marks.new counters.new ≡ others_write_all (meaning map.now) s w q k s.processors (tables_of entries.old known.now marks.old counters.old) }
+    ensures { tables_of entries.new known.now marks.new counters.new ≡ others_write_all (M.meaning map.now) s w q k s.processors (tables_of entries.old known.now marks.old counters.old) }
 {
     for n in 0..s.processors {
         let p = n + 1;
@@ -130,7 +130,7 @@ pub(super) fn apply<M: SetMap>(
 ) -> Result<(), Refusal>
     requires limits { (Limited s) × ((1 ≤ r.processor) × ((r.processor ≤ s.processors) × (k < s.blocks))) }
     requires long { Long s (tables_of entries.old known.old marks.old counters.old) }
-    ensures { UnlessFull (no_more_entries (meaning map.now) s (tables_of entries.old known.old marks.old counters.old) r.processor (block_of s.shift r.address)) (tables_of entries.old known.old marks.old counters.old) (applied (meaning map.now) s r k (tables_of entries.old known.old marks.old counters.old)) result (tables_of entries.new known.new marks.new counters.new) }
+    ensures { UnlessFull (no_more_entries (M.meaning map.now) s (tables_of entries.old known.old marks.old counters.old) r.processor (block_of s.shift r.address)) (tables_of entries.old known.old marks.old counters.old) (applied (M.meaning map.now) s r k (tables_of entries.old known.old marks.old counters.old)) result (tables_of entries.new known.new marks.new counters.new) }
 {
     let p = r.processor;
     let q = Block::of(r.address, s.shift);

@@ -15,8 +15,8 @@ loop-i-preserved c =
     let i = c.loop-i.i in
     let v = c.loop-i.invariant in
     let q = nth_block d i in
-    let r = c.read-at-sum.ensures ∙ read_is q (i % 17) c.loop-i.es _ (omega arith) c.touch-answer.ensures.answer ∙ ap (told q (i % 17)) v.0 in (
+    let r = c.read_at-sum.ensures ∙ read_is q (i % 17) c.loop-i.es _ (omega arith) c.touch-answer.ensures.answer ∙ ap (told q (i % 17)) v.0 in (
       c.touch-answer.ensures.stretch ∙ ap (after bit_choice q) v.0 ∙ sym (stretch_more d i),
       c.touch-answer.auto.es ∙ v.1,
-      ap (λ n. (n + c.read-at-sum.result) % 2 ^ 64) v.2 ∙ ap (λ n. (total d i + n) % 2 ^ 64) r ∙ sym (total_more d i),
+      ap (λ n. (n + c.read_at-sum.result) % 2 ^ 64) v.2 ∙ ap (λ n. (total d i + n) % 2 ^ 64) r ∙ sym (total_more d i),
     )

@@ -11,6 +11,6 @@ returns-in-Text c =
 
 pub returns-in-Records : goal.returns-in-Records
 returns-in-Records c =
-    let v : c.whole-records.result ≡ whole c.args.form c.args.bytes.now = rw c.in-Records.is c.whole-records.ensures in
-    let p = pieces_at c.args.form c.args.bytes.now c.whole-records.result v in
+    let v : c.whole_records.result ≡ whole c.args.form c.args.bytes.now = rw c.in-Records.is c.whole_records.ensures in
+    let p = pieces_at c.args.form c.args.bytes.now c.whole_records.result v in
     record { value = v; within = p.0; front = p.1; cut = p.2; rest = p.3 }

@@ -9,7 +9,7 @@ loop-i-preserved g c =
     let xs = c.args.lines.now in
     let i = c.loop-i.i in
     let x = c.index-lines-i.result in
-    c.in-ok-push.ensures ∙ ap (λ bs. bs ++ f x) c.loop-i.invariant ∙ flat_map_more f (string_bytes c.args.out.now) (take i xs) x
+    c.in_ok-push.ensures ∙ ap (λ bs. bs ++ f x) c.loop-i.invariant ∙ flat_map_more f (string_bytes c.args.out.now) (take i xs) x
     ∙ ap (λ y. string_bytes c.args.out.now ++ flat_map f (take i xs ++ y ∷ [])) c.index-lines-i.is
     ∙ ap (λ ys. string_bytes c.args.out.now ++ flat_map f ys) (sym (take_more xs i x (omega arith)))
 

@@ -4,13 +4,13 @@ use Rattle.std.proofs.lemmas.Result.{err_from_is_err_and}
 use Rattle.records.proofs.Cut.{accepted, refused}
 use Rattle.records.proofs.RecordsSource.next.Goals as goal
 
-pub returns-in-err-reference : goal.returns-in-err-reference
-returns-in-err-reference c =
+pub returns-in_err-reference : goal.returns-in_err-reference
+returns-in_err-reference c =
     let xs = c.args.self.now.rest.now in
-    let p = err_from_is_err_and c.from-residual.result c.from-residual.ensures.1 in
-    rw (p.1, p.2) (refused xs _ _ (search rules) (take_rest xs 6) _ c.in-err-reference.ensures)
+    let p = err_from_is_err_and c.from_residual.result c.from_residual.ensures.1 in
+    rw (p.1, p.2) (refused xs _ _ (search rules) (take_rest xs 6) _ c.in_err-reference.ensures)
 
 pub returns : goal.returns
 returns c =
     let xs = c.args.self.now.rest.now in
-    accepted xs _ _ (search rules) (take_rest xs 6) _ c.in-ok-reference.ensures
+    accepted xs _ _ (search rules) (take_rest xs 6) _ c.in_ok-reference.ensures

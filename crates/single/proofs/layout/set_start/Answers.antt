@@ -8,8 +8,8 @@ use Rattle.single.proofs.layout.set_start.Goals as goal
 few : (p n k w : ℕ) → p ≤ 64 → n ≤ 68719476736 → k ≤ 4294967296 → w ≤ 16 → (p - 1) * n + k * w ≤ 2 ^ 43
 few p n k w a b c d = omega (arith, mul-le (p - 1) n 64 68719476736 (omega arith) b, mul-le k w 4294967296 16 c d)
 
-pub overflow-add-result : goal.overflow-add-result
-overflow-add-result g c =
+pub overflow_add-result : goal.overflow_add-result
+overflow_add-result g c =
     omega (arith, few c.args.p c.cache_frames.result c.set.result c.args.s.ways (omega (arith, c.requires.0.processors)) c.cache_frames.ensures.small (omega arith) c.requires.0.ways)
 
 pub returns : goal.returns

@@ -9,7 +9,7 @@ returns-then-place-end c =
     let k = c.seek-place.ensures.value in
     record {
       dropped = is_listed c.args.block fs _ _ e k c.if-place-end.true;
-      after = ap (λ xs. xs ++ drop (c.seek-end.result - 0) fs) c.close-up.ensures ∙ lost_found c.args.block fs _ _ e k c.if-place-end.true;
+      after = ap (λ xs. xs ++ drop (c.seek-end.result - 0) fs) c.close_up.ensures ∙ lost_found c.args.block fs _ _ e k c.if-place-end.true;
     }
 
 pub returns : goal.returns

@@ -11,7 +11,7 @@ returns-then-place-end c =
     let k = c.seek-place.ensures.value in
     record {
       hit = is_listed c.args.block fs _ _ e k c.if-place-end.true;
-      after = c.bring-to-front.ensures ∙ touched-hit c.args.block fs _ _ e k (length fs) c.if-place-end.true;
+      after = c.bring_to_front.ensures ∙ touched-hit c.args.block fs _ _ e k (length fs) c.if-place-end.true;
     }
 
 pub returns : goal.returns
@@ -23,7 +23,7 @@ returns c =
     let l = c.if-place-end.false in
     record {
       hit = not_listed q fs _ _ e k l;
-      after = c.bring-to-front-2.ensures ∙ elim c.if-end-set.branch [
+      after = c.bring_to_front-2.ensures ∙ elim c.if-end-set.branch [
         | then-end-set w ↦ ap (λ i. fronted i (set fs i (Some q))) w.place-is ∙ touched_free q fs _ _ e k l w.if-end-set.true
         | else-end-set w ↦ ap (λ i. fronted i (set fs i (Some q))) w.place-is ∙ touched-full q fs _ _ e k l w.if-end-set.false c.requires
       ];

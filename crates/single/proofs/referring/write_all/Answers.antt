@@ -14,6 +14,6 @@ loop-n-preserved g c =
     let t₁ = tables_of l.frames l.counters in
     let t₂ = tables_of j.frames j.counters in
     elim c.if-p-w.branch [
-      | then-p-w w ↦ write_step m a.s a.w a.block l.n t t₁ t₂ l.invariant w.if-p-w.true (same_tables w.frames-is w.counters-is ∙ w.write-to.ensures)
+      | then-p-w w ↦ write_step m a.s a.w a.block l.n t t₁ t₂ l.invariant w.if-p-w.true (same_tables w.frames-is w.counters-is ∙ w.write_to.ensures)
       | else-p-w w ↦ write_skip m a.s a.w a.block l.n t t₁ t₂ l.invariant w.if-p-w.false (same_tables w.frames-is w.counters-is)
     ]

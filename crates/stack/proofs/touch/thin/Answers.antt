@@ -2,7 +2,7 @@ use Rattle.std.proofs.Common.{◌<◌, length, sym, ap, ◌∙◌, arith}
 use Rattle.levels.specs.Levels.{either}
 use Rattle.stack.proofs.Thins.{giving_is, thin_read, thin_keeps, thin_skips, marker_keeps, marker_goes, other_keeps}
 use Rattle.stack.proofs.touch.thin.Goals as goal
-use Rattle.stack.proofs.touch.thin.Goals.{in-Marker+else-stands, in-Marker+then-stands, in-default}
+use Rattle.stack.proofs.touch.thin.Goals.{in-Marker+else-stands, in-Marker+then-stands, in_default}
 
 pub loop-at-preserved : goal.loop-at-preserved
 loop-at-preserved g c =
@@ -29,7 +29,7 @@ loop-at-preserved g c =
           let x = giving_is m q gv b v _ _ w.meet-met.ensures.gives w.meet-met.ensures.counts in
           thin_skips m q E at h ys _ to _ gv _ _ t (sym r ∙ w.in-Marker.is) (w.given-is ∙ w.either-given.ensures.value ∙ ap (either gv) x)
           (marker_goes m q gv b v _ _ _ x w.meet-met.ensures.keeps w.stands.ensures w.if-stands.false) w.es-is w.to-is)
-      | in-default w ↦
-          (let o = other_keeps m q gv _ w.in-default.not-Marker in
+      | in_default w ↦
+          (let o = other_keeps m q gv _ w.in_default.not-Marker in
           thin_keeps m q E at h ys _ to _ gv _ _ t (sym r) (w.given-is ∙ o.1) _ o.0 w.es-is w.to-is)
     ]

@@ -9,8 +9,8 @@ use Rattle.stack.proofs.walk.count_above.Goals.{in-Block+else-is, in-Marker}
 pub loop-place-init : goal.loop-place-init
 loop-place-init g c = (omega arith, omega arith, no_tally _ _ _ c.none-given.ensures.value)
 
-pub overflow-add-sharing : goal.overflow-add-sharing
-overflow-add-sharing g c =
+pub overflow_add-sharing : goal.overflow_add-sharing
+overflow_add-sharing g c =
     let t = c.loop-place.invariant.2 in
     let f = t.few 0 (omega arith) in
     let w : c.min.result < length c.loop-place.sharing = omega (arith, t.wide, c.min.ensures) in
@@ -18,15 +18,15 @@ overflow-add-sharing g c =
     let l = length-take c.loop-place.place c.args.es.now in
     omega arith
 
-pub overflow-add-stays : goal.overflow-add-stays
-overflow-add-stays g c =
+pub overflow_add-stays : goal.overflow_add-stays
+overflow_add-stays g c =
     let t = c.loop-place.invariant.2 in
     let l = length-take c.loop-place.place c.args.es.now in
     let s = stays_le (g.M.SetMap.meaning c.args.map.now) c.args.q no_level (take c.loop-place.place c.args.es.now) in
     omega (arith, t.stays_is)
 
-pub overflow-add-stays-in-Marker : goal.overflow-add-stays-in-Marker
-overflow-add-stays-in-Marker g c =
+pub overflow_add-stays-in-Marker : goal.overflow_add-stays-in-Marker
+overflow_add-stays-in-Marker g c =
     let t = c.loop-place.invariant.2 in
     let l = length-take c.loop-place.place c.args.es.now in
     let s = stays_le (g.M.SetMap.meaning c.args.map.now) c.args.q no_level (take c.loop-place.place c.args.es.now) in
@@ -44,16 +44,16 @@ loop-place-preserved g c =
       | in-Block+else-is w ↦ (
         omega arith,
         goes_on q es at _ h (sym w.in-Block.is) (sym w.is.ensures ∙ w.if-is.false) i.1,
-        past_block m q es at h w.min.result w.in-Block.b w.in-Block.is (w.min.ensures ∙ ap (λ x. min x 17) w.shared_levels.ensures) w.sharing-is w.markers-is w.given-is w.stays_is i.2,
+        past_block m q es at h w.min.result w.in-Block.b w.in-Block.is (w.min.ensures ∙ ap (λ x. min x 17) w.shared_levels.ensures) w.sharing-is w.markers-is w.given-is w.stays-is i.2,
       )
       | in-Marker w ↦ (
         omega arith,
         goes_on q es at _ h (sym w.in-Marker.is) refl i.1,
         past_marker m q es at h w.meet-met.result.counts w.meet-met.result.gives w.in-Marker.b w.in-Marker.v w.in-Marker.is
             w.meet-met.ensures.counts w.meet-met.ensures.gives w.sharing-is
-            (λ k l. ap (λ x. get_or x k 0) w.markers-is ∙ w.count-levels.ensures k l)
-            (ap length w.markers-is ∙ w.count-levels.auto.counts ∙ i.2.deep)
-            (w.stays_is ∙ ap (λ n. c.loop-place.stays + n) (marker_byte w.in-Marker.b _ _ _ w.stands.ensures w.meet-met.ensures.keeps))
+            (λ k l. ap (λ x. get_or x k 0) w.markers-is ∙ w.count_levels.ensures k l)
+            (ap length w.markers-is ∙ w.count_levels.auto.counts ∙ i.2.deep)
+            (w.stays-is ∙ ap (λ n. c.loop-place.stays + n) (marker_byte w.in-Marker.b _ _ _ w.stands.ensures w.meet-met.ensures.keeps))
             (w.given-is ∙ w.either-given.ensures.value) i.2,
       )
     ]

@@ -2,8 +2,8 @@ use Rattle.std.proofs.Common.{◌<◌, ◌≢◌, length, arith, get_or-set_othe
 use Rattle.levels.proofs.Bits.{bit_is}
 use Rattle.stack.proofs.walk.count_levels.Goals as goal
 
-pub overflow-add-counts : goal.overflow-add-counts
-overflow-add-counts c =
+pub overflow_add-counts : goal.overflow_add-counts
+overflow_add-counts c =
     let i = c.loop-i.i in
     omega (arith, c.loop-i.invariant.1 i (omega arith), c.requires.few i c.loop-i-test.true)
 

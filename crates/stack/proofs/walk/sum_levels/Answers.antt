@@ -10,15 +10,15 @@ loop-i-init c =
     let d = at_drop_all sum c.args.sharing.now 18 (omega arith) in
     (sym d, (λ k p q. absurd (omega arith)), refl)
 
-pub overflow-add-above-in-loop-i : goal.overflow-add-above-in-loop-i
-overflow-add-above-in-loop-i c =
+pub overflow_add-above-in-loop-i : goal.overflow_add-above-in-loop-i
+overflow_add-above-in-loop-i c =
     let i = c.loop-i.i in
     let xs = c.args.sharing.now in
     let o = one_down xs i c.loop-i.above c.loop-i-test.true (omega (arith, c.requires.wide.0)) c.loop-i.invariant.0 in
     omega (arith, sum-drop_le xs (i - 1 + 1), c.requires.few 0 (omega arith))
 
-pub position-of-requires : goal.position-of-requires
-position-of-requires c =
+pub position_of-requires : goal.position_of-requires
+position_of-requires c =
     let i = c.loop-i.i in
     let xs = c.args.sharing.now in
     let o = one_down xs i c.loop-i.above c.loop-i-test.true (omega (arith, c.requires.wide.0)) c.loop-i.invariant.0 in
@@ -34,7 +34,7 @@ loop-i-preserved c =
       (λ k p q.
           elim (cases_lt (i - 1) k) [
             | inl l ↦ (let ne : k ≢ (i - 1) = omega arith in rw get_or-set_other (c.loop-i.invariant.1 k (omega arith) q))
-            | inr l ↦ (let e : k ≡ i - 1 = omega arith in let s = get_or-set_same c.loop-i.positions (i - 1) c.position-of.result 0 lt in rw e (s ∙ omega (arith, c.position-of.ensures)))
+            | inr l ↦ (let e : k ≡ i - 1 = omega arith in let s = get_or-set_same c.loop-i.positions (i - 1) c.position_of.result 0 lt in rw e (s ∙ omega (arith, c.position_of.ensures)))
           ]),
       length-set _ _ _ ∙ c.loop-i.invariant.2,
     )

@@ -3,17 +3,17 @@ use Rattle.stack.specs.Walk.{stop}
 use Rattle.stack.proofs.Walks.{position_split, same_answer}
 use Rattle.stack.proofs.walk.walk_to.Goals as goal
 
-pub sum-levels-positions-requires : goal.sum-levels-positions-requires
-sum-levels-positions-requires g c =
-    let t = c.count-above-place.ensures.tallied in
+pub sum_levels-positions-requires : goal.sum_levels-positions-requires
+sum_levels-positions-requires g c =
+    let t = c.count_above-place.ensures.tallied in
     let l = length-take (stop c.args.q c.args.es.now) c.args.es.now in
     record { wide = (t.wide, t.deep); few = λ i h. omega (arith, t.few i h) }
 
 pub returns : goal.returns
 returns g c =
     let m = g.M.SetMap.meaning c.args.map.now in
-    let r = c.count-above-place.ensures in
-    let n = λ (i : ℕ) (h : i < 17). c.sum-levels-positions.ensures.each i h ∙ ap (λ n. n + 1) (r.tallied.counted i h) in
+    let r = c.count_above-place.ensures in
+    let n = λ (i : ℕ) (h : i < 17). c.sum_levels-positions.ensures.each i h ∙ ap (λ n. n + 1) (r.tallied.counted i h) in
     record {
       place_is = r.place_is;
       found_is = r.found_is;
@@ -21,5 +21,5 @@ returns g c =
       stays_is = r.tallied.stays_is;
       counted = n;
       positioned = λ i h. position_split m c.args.q i c.args.es.now ∙ same_answer r.found_is (n i h);
-      seventeen = c.sum-levels-positions.ensures.many;
+      seventeen = c.sum_levels-positions.ensures.many;
     }
