@@ -8,4 +8,4 @@ pub loop-rest-preserved : goal.loop-rest-preserved
 loop-rest-preserved c =
     let q = c.args.q in
     let xs = c.loop-rest.rest.now in
-    ap (among q) (take_rest xs 16) ∙ sym (none_in_front q 16 xs (sym c.if-has-any.ensures)) ∙ c.loop-rest.invariant
+    ap (among q) (take_rest xs 16) ∙ sym (none_in_front q 16 xs (sym c.if-has_any.ensures)) ∙ c.loop-rest.invariant

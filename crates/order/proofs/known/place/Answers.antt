@@ -5,7 +5,7 @@ use Rattle.order.proofs.known.place.Goals as goal
 pub loop-at-preserved : goal.loop-at-preserved
 loop-at-preserved c =
     let l : c.loop-at.at + 16 ≤ length c.args.blocks.now = omega arith in
-    (l, chunk_passed c.args.q c.args.blocks.now c.loop-at.at c.loop-at.invariant.1 _ (omega arith) l (sym c.if-has-any.ensures))
+    (l, chunk_passed c.args.q c.args.blocks.now c.loop-at.at c.loop-at.invariant.1 _ (omega arith) l (sym c.if-has_any.ensures))
 
 pub loop-at-2-preserved : goal.loop-at-2-preserved
 loop-at-2-preserved c =

@@ -18,7 +18,7 @@ returns-in-Err g c =
     let after = g.S.Source.items c.next.new.self in
     let n' = g.S.Source.answered c.next.new.self in
     let r = c.in-Some.r in
-    let given : Given items n (Ok c.in-ok-next.next) after n' = c.in-ok-next.ensures in
+    let given : Given items n (Ok c.in_ok-next.next) after n' = c.in_ok-next.ensures in
     let came = took items after n n' r (subst (λ x. Given items n (Ok x) after n') c.in-Some.is given) in
     let e = c.in-Err.ensures.answer in
     record {

@@ -72,7 +72,7 @@ loop-fed-preserved g c =
     let room' = room m (g.M.SetMap.meaning l.cache.map) s l.cache.settings (ap g.M.SetMap.meaning i.0) i.1 items (g.S.Source.items last.source) n (g.S.Source.answered last.source)
     l.cache.accepted last.cache.accepted (tables_of l.frames l.counters) (tables_of last.frames last.counters) e.accepted e.tables e.items e.answered i.3 some in
     let pushed : vec_items c.push.new.self ≡ vec_items l.refused ++ (refused_line (f.item + 1) f.refusal ∷ []) =
-    c.in-ok-push.ensures.items ∙ ap (λ x. vec_items l.refused ++ (x ∷ [])) c.refused_line.ensures in (
+    c.in_ok-push-in-Err.ensures.items ∙ ap (λ x. vec_items l.refused ++ (x ∷ [])) c.refused_line.ensures in (
       e.map ∙ i.0,
       e.settings ∙ i.1,
       short_same m s l.frames last.frames l.counters last.counters c.feed.auto.frames c.feed.auto.counters i.2,

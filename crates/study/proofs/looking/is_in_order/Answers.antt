@@ -9,6 +9,6 @@ returns c y =
     let a = c.args in
     record {
       few = c.requires.limits.1;
-      distinct = no_repeat_distinct (take a.n a.known.now) (ap no_repeat (sym (first_is a.n a.known.now)) ∙ sym c.no_repeat.ensures.value ∙ c.if-not-no-repeat.false);
-      rows = c.rows-in-order.ensures y;
+      distinct = no_repeat_distinct (take a.n a.known.now) (ap no_repeat (sym (first_is a.n a.known.now)) ∙ sym c.no_repeat.ensures.value ∙ c.if-not-no_repeat.false);
+      rows = c.rows_in_order.ensures y;
     }

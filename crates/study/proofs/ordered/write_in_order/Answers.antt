@@ -17,8 +17,8 @@ loop-i-preserved g c =
     elim c.if-p-w.branch [
       | then-p-w w ↦ (
           let same = same_tables w.entries-is refl w.marks-is w.counters-is in (
-            write_step m a.s a.w a.q a.k l.i t u v l.invariant.0 w.if-p-w.true (same ∙ w.write-where-held.ensures.written),
-            subst (InOrder a.s a.n) (sym same) w.write-where-held.ensures.ordered,
+            write_step m a.s a.w a.q a.k l.i t u v l.invariant.0 w.if-p-w.true (same ∙ w.write_where_held.ensures.written),
+            subst (InOrder a.s a.n) (sym same) w.write_where_held.ensures.ordered,
           ))
       | else-p-w w ↦ (
           let same = same_tables w.entries-is refl w.marks-is w.counters-is in (

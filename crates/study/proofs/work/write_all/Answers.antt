@@ -14,6 +14,6 @@ loop-n-preserved g c =
     let u = tables_of l.entries a.known.now l.marks l.counters in
     let v = tables_of j.entries a.known.now j.marks j.counters in
     elim c.if-p-w.branch [
-      | then-p-w w ↦ write_step m a.s a.w a.q a.k l.n t u v l.invariant w.if-p-w.true (same_tables w.entries-is refl w.marks-is w.counters-is ∙ w.write-to.ensures)
+      | then-p-w w ↦ write_step m a.s a.w a.q a.k l.n t u v l.invariant w.if-p-w.true (same_tables w.entries-is refl w.marks-is w.counters-is ∙ w.write_to.ensures)
       | else-p-w w ↦ write_skip m a.s a.w a.q a.k l.n t u v l.invariant w.if-p-w.false (same_tables w.entries-is refl w.marks-is w.counters-is)
     ]

@@ -13,9 +13,9 @@ loop-i-preserved c m q es t =
     let e = c.loop-i.invariant m q es t in
     elim c.if-reaches.branch [
       | then-reaches w ↦
-          (let k = i * c.args.s.ways + w.saturating-sub.result in
-          w.counters-is ∙ w.bump.ensures ∙ ap (λ j. more j c.loop-i.counters) w.saturating-add.ensures ∙ more_capped (c.args.from + k) c.loop-i.counters (search rules)
-          ∙ ap (λ j. more (c.args.from + (i * c.args.s.ways + j)) c.loop-i.counters) w.saturating-sub.ensures
+          (let k = i * c.args.s.ways + w.saturating_sub.result in
+          w.counters-is ∙ w.bump.ensures ∙ ap (λ j. more j c.loop-i.counters) w.saturating_add.ensures ∙ more_capped (c.args.from + k) c.loop-i.counters (search rules)
+          ∙ ap (λ j. more (c.args.from + (i * c.args.s.ways + j)) c.loop-i.counters) w.saturating_sub.ensures
           ∙ scores_more m c.args.s c.args.from q es _ t i _ _ h c.if-walk.true e (sym w.if-reaches.ensures))
       | else-reaches w ↦ w.counters-is ∙ scores_past m c.args.s c.args.from q es _ t i _ _ h c.if-walk.true e (sym w.if-reaches.ensures)
     ]

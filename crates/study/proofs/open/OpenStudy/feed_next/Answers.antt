@@ -14,14 +14,14 @@ returns-in-Some g c =
     let kept = kept_of a.self.now.known a.self.now.accepted in
     let t = tables_of a.entries.now a.known.now a.marks.now a.counters.now in
     let h =
-    fed_reference items after n n' c.in-Some.r _ c.in-Some.is c.in-ok-next.ensures (g.M.SetMap.meaning a.self.now.map) a.self.now.settings kept t c.count.result c.count.ensures in
-    let e = c.feed-reference.ensures in
+    fed_reference items after n n' c.in-Some.r _ c.in-Some.is c.in_ok-next.ensures (g.M.SetMap.meaning a.self.now.map) a.self.now.settings kept t c.count.result c.count.ensures in
+    let e = c.feed_reference.ensures in
     record {
       answer = e.answer ∙ ap (λ o. o.answer) h;
       kept = e.kept ∙ ap (λ o. o.kept) h;
       tables = e.tables ∙ ap (λ o. o.tables) h;
       map = e.map;
       settings = e.settings;
-      items = used_one items after n n' c.in-Some.r _ c.in-Some.is c.in-ok-next.ensures;
-      answered = counted_one items after n n' c.in-Some.r _ c.in-Some.is c.in-ok-next.ensures;
+      items = used_one items after n n' c.in-Some.r _ c.in-Some.is c.in_ok-next.ensures;
+      answered = counted_one items after n n' c.in-Some.r _ c.in-Some.is c.in_ok-next.ensures;
     }
