@@ -24,18 +24,18 @@ const TOLD: u64 = 16;
 fn refused(refusal: Refusal) -> anyhow::Error {
     match refusal {
         Refusal::Setting =>
-            "the settings are refused with 1: a number is outside its limits".into(),
-        Refusal::Level => "the settings are refused with 2: the map lacks a level".into(),
-        Refusal::Size => "the settings are refused with 10: a number is too large".into(),
+            anyhow!("the settings are refused with 1: a number is outside its limits"),
+        Refusal::Level => anyhow!("the settings are refused with 2: the map lacks a level"),
+        Refusal::Size => anyhow!("the settings are refused with 10: a number is too large"),
         _ =>
-            "the settings are refused with 9: map,processors,shift,levels,ways,blocks is the form".into(),
+            anyhow!("the settings are refused with 9: map,processors,shift,levels,ways,blocks is the form"),
     }
 }
 
 fn not_read(error: ReadError) -> anyhow::Error {
     match error {
-        ReadError::TooLong => "the trace has more items than can be counted".into(),
-        ReadError::NoMemory => "there is not enough memory for a piece of the trace".into(),
+        ReadError::TooLong => anyhow!("the trace has more items than can be counted"),
+        ReadError::NoMemory => anyhow!("there is not enough memory for a piece of the trace"),
     }
 }
 

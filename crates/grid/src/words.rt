@@ -1,3 +1,4 @@
+use anyhow::anyhow;
 use cutting::Form;
 use std::env;
 
@@ -25,13 +26,13 @@ pub(super) fn read_words(rt: &HostRuntime) -> anyhow::Result<Request> {
         } else if word.as_str() == "--progress" {
             progress = true;
         } else if word.as_str().starts_with("--") {
-            return Err(USAGE.into());
+            return Err(anyhow!(USAGE));
         } else if settings.is_none() {
             settings = Some(word);
         } else if file.is_none() {
             file = Some(word);
         } else {
-            return Err(USAGE.into());
+            return Err(anyhow!(USAGE));
         }
     }
     match settings {
@@ -41,6 +42,6 @@ pub(super) fn read_words(rt: &HostRuntime) -> anyhow::Result<Request> {
             form,
             progress,
         }),
-        None => Err(USAGE.into()),
+        None => Err(anyhow!(USAGE)),
     }
 }

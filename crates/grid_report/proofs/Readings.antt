@@ -2,6 +2,7 @@
 use Rattle.std.proofs.Common.{◌≡◌, ℕ, ◌+◌, List, [], ◌∷◌, ◌++◌, length, take, drop, Some, None, Option, sym, refl, ap, ◌∙◌, subst, inl, arith, length-append}
 use Rattle.std.proofs.lemmas.List.{append_assoc, take-append-drop}
 use Rattle.setmap.specs.Mapping.{Mapping}
+use Rattle.setmap.specs.declared.SetMap.{Ghosts}
 use Rattle.trace.specs.Items.{Item, reference, bad}
 use Rattle.trace.specs.declared.Reference.{Reference}
 use Rattle.trace.specs.declared.Refusal.{Refusal}
@@ -45,7 +46,7 @@ module _ (s : Settings) where
 
 -- ---- a grid, by its parts
 
-abbrev pub Read : {M : Type 0} → Mapping → SheetStudy M → Form → (held : List ℕ) (count : ℕ) → List ℕ → List RefusedLine → Type 0
+abbrev pub Read : {M : Type 0} {G : Ghosts M} → Mapping → SheetStudy M G → Form → (held : List ℕ) (count : ℕ) → List ℕ → List RefusedLine → Type 0
 Read m study form held count bytes refused =
     (front : List ℕ) × (bytes ≡ front ++ held) × WholeItems form front × LeftOver form held
     × (count ≡ length (items_of form front))
@@ -57,7 +58,7 @@ no_items Text = refl
 no_items Records = refl
 
 -- nothing was given yet
-pub read_none : {M : Type 0} (m : Mapping) (study : SheetStudy M) (form : Form) (held : List ℕ) → held ≡ [] → HasAccepted m study [] → Read m study form held 0 [] []
+pub read_none : {M : Type 0} {G : Ghosts M} (m : Mapping) (study : SheetStudy M G) (form : Form) (held : List ℕ) → held ≡ [] → HasAccepted m study [] → Read m study form held 0 [] []
 read_none m study form held e accepted =
     let none = no_items form in (
       [],
@@ -69,7 +70,7 @@ read_none m study form held e accepted =
       subst (λ is. HasAccepted m study (reading study.settings 1 is []).history) (sym none) accepted,
     )
 
-module _ {M : Type 0} (m : Mapping) (study study' : SheetStudy M) (form : Form) (held : List ℕ) (count : ℕ) (bytes : List ℕ) (refused : List RefusedLine) where
+module _ {M : Type 0} {G : Ghosts M} (m : Mapping) (study study' : SheetStudy M G) (form : Form) (held : List ℕ) (count : ℕ) (bytes : List ℕ) (refused : List RefusedLine) where
   -- the whole items of what is held and given are put to the study, and the rest is held
   pub read_more : study'.settings ≡ study.settings → (more all whole rest : List ℕ) (count' : ℕ) (new : List RefusedLine) → all ≡ held ++ more → whole ++ rest ≡ all → WholeItems form whole → LeftOver form rest
       → PutThrough m study study' (items_of form whole) (count + 1) new → count' ≡ count + length (items_of form whole)
@@ -101,7 +102,7 @@ module _ {M : Type 0} (m : Mapping) (study study' : SheetStudy M) (form : Form) 
       )
 
 -- a source has these items after so many
-pub fed_as : {M : Type 0} (m : Mapping) (study study' : SheetStudy M) (items items₁ : List Item) (count n count' : ℕ) (refused : List RefusedLine) → items₁ ≡ items → n ≡ count
+pub fed_as : {M : Type 0} {G : Ghosts M} (m : Mapping) (study study' : SheetStudy M G) (items items₁ : List Item) (count n count' : ℕ) (refused : List RefusedLine) → items₁ ≡ items → n ≡ count
     → PutThrough m study study' items₁ (n + 1) refused → count' ≡ n + length items₁ → PutThrough m study study' items (count + 1) refused × (count' ≡ count + length items)
 fed_as m study study' items items₁ count n count' refused ei en through counted = (
   subst (λ is. PutThrough m study study' is (count + 1) refused) ei (subst (λ k. PutThrough m study study' items₁ (k + 1) refused) en through),

@@ -1,6 +1,7 @@
 -- A trace that comes in pieces: what a grid has read of it.
 use Rattle.std.specs.Prelude.{◌≡◌, ℕ, ◌^◌, ◌≤◌, cond, List, [], ◌++◌, length, Some, None, vec_items, Option, nat_lt}
 use Rattle.setmap.specs.Mapping.{Mapping}
+use Rattle.setmap.specs.declared.SetMap.{Ghosts}
 use Rattle.trace.specs.declared.Refusal.{Refusal}
 use Rattle.trace.specs.declared.Refusal.TheVariants.{Setting, Level}
 use Rattle.tables.specs.declared.Settings.{Settings}
@@ -35,7 +36,7 @@ abbrev pub trace_reading : Settings → Form → List ℕ → Reading
 trace_reading s form bytes = reading s 1 (items_of form bytes) []
 
 -- The grid was given these bytes and has answered these refused items: it holds no more than a piece of an item, and all before was put to its study, counted and answered.
-abbrev pub HasRead : {M : Type 0} → Mapping → Grid M → List ℕ → List RefusedLine → Type 0
+abbrev pub HasRead : {M : Type 0} {G : Ghosts M} → Mapping → Grid M G → List ℕ → List RefusedLine → Type 0
 HasRead m g bytes refused =
     (front : List ℕ) × (bytes ≡ front ++ vec_items g.held) × WholeItems g.form front × LeftOver g.form (vec_items g.held)
     × (g.count ≡ length (items_of g.form front))

@@ -11,15 +11,15 @@ returns g c bytes refused read =
     let self = c.args.self in
     let mean = g.M.SetMap.meaning in
     let m = mean self.study.map in
-    let study = c.feed-bytes.new.study in
-    let fed = c.in-ok-refused.ensures in
-    let new = vec_items c.in-ok-refused.refused in
-    let through = subst (λ xs. PutThrough m self.study study (items_of self.form xs) (self.count + 1) new) c.as-slice.ensures.value fed.through.0 in
+    let study = c.feed_bytes.new.study in
+    let fed = c.in_ok-refused.ensures in
+    let new = vec_items c.in_ok-refused.refused in
+    let through = subst (λ xs. PutThrough m self.study study (items_of self.form xs) (self.count + 1) new) c.as_slice.ensures.value fed.through.0 in
     let all = read_all m self.study study self.form (vec_items self.held) self.count bytes refused new through read in
     let h = (trace_reading self.study.settings self.form bytes).history in
     let same_map = ap mean fed.map in (
       all.0,
-      c.in-ok-rows.ensures h (subst (λ x. HasAccepted x study h) (sym same_map) all.1)
+      c.in_ok-rows.ensures h (subst (λ x. HasAccepted x study h) (sym same_map) all.1)
           ∙ ap (λ x. rows x h study.settings.levels study.settings.ways study.settings.processors) same_map
           ∙ ap (λ s. rows m h s.levels s.ways s.processors) fed.settings,
     )

@@ -9,4 +9,4 @@ pub returns-in-Ok : goal.returns-in-Ok
 returns-in-Ok g c =
     let m = g.M.SetMap.meaning c.args.map in
     let o = c.in-Ok.ensures in
-    (sym (fits m (settings_of c.args.sizes) (lists_of c.in-ok-tables.tables) c.in-ok-tables.ensures) ∙ o.0, o.1, o.2, refl, read_none m c.in-Ok.study c.args.form _ c.new.ensures.items o.3)
+    (sym (fits m (settings_of c.args.sizes) (lists_of c.in_ok-tables.tables) c.in_ok-tables.ensures) ∙ o.0, o.1, o.2, refl, read_none m c.in-Ok.study c.args.form _ c.new.ensures.items o.3)

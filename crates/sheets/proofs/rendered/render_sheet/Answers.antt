@@ -11,5 +11,5 @@ returns c =
     let title : List ℕ = heading_text (codes "processor,level,sets,ways,references,hits,drops,cold,lost,replaced") in
     let lines = flat_map refused_text c.args.refused.now in
     let rows = flat_map row_text c.args.rows.now in
-    c.in-ok-push-lines-2.ensures ∙ ap (λ bs. bs ++ rows) (c.in-ok-push-heading.ensures ∙ ap (λ bs. bs ++ title) (c.in-ok-push-lines.ensures ∙ ap (λ bs. bs ++ lines) c.new-out.ensures.bytes))
+    c.in_ok-push_lines-2.ensures ∙ ap (λ bs. bs ++ rows) (c.in_ok-push_heading.ensures ∙ ap (λ bs. bs ++ title) (c.in_ok-push_lines.ensures ∙ ap (λ bs. bs ++ lines) c.new-out.ensures.bytes))
     ∙ append_assoc lines title rows

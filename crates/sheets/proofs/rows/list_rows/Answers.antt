@@ -3,8 +3,8 @@ use Rattle.sheets.specs.Sheets.{rows}
 use Rattle.sheets.proofs.Lines.{processors_more}
 use Rattle.sheets.proofs.rows.list_rows.Goals as goal
 
-pub push-levels-requires : goal.push-levels-requires
-push-levels-requires g c =
+pub push_levels-requires : goal.push_levels-requires
+push_levels-requires g c =
     let q = c.requires.asked in
     let a = c.args in
     let low : c.loop-n.n < a.s.processors = omega arith in
@@ -18,7 +18,7 @@ pub loop-n-preserved : goal.loop-n-preserved
 loop-n-preserved g c t₀ h kept closed =
     let a = c.args in
     processors_more (g.M.SetMap.meaning a.study.now.map) h a.s.levels a.s.ways c.loop-n.n _ (vec_items c.loop-n.rows) _ refl
-    (c.loop-n.invariant t₀ h kept closed) (c.in-ok-push-levels.ensures t₀ h kept closed)
+    (c.loop-n.invariant t₀ h kept closed) (c.in_ok-push_levels.ensures t₀ h kept closed)
 
 pub returns : goal.returns
 returns g c t₀ h kept closed =

@@ -4,12 +4,12 @@ use Rattle.sheets.specs.Sheets.{level_rows}
 use Rattle.sheets.proofs.Lines.{levels_more}
 use Rattle.sheets.proofs.rows.push_levels.Goals as goal
 
-pub push-ways-requires : goal.push-ways-requires
-push-ways-requires g c =
+pub push_ways-requires : goal.push_ways-requires
+push_ways-requires g c =
     let a = c.args in
     let q = c.requires.asked in
     let i = c.loop-level.level in
-    let low : i < a.most-levels = omega arith in
+    let low : i < a.most_levels = omega arith in
     record {
       long = c.requires.long;
       asked = (q.0, q.1, omega (arith, q.2), q.3, c.sets-sets.ensures ∙ ap (λ x. (g.M.SetMap.meaning x).sets (offered (g.M.SetMap.meaning x) i)) q.4);
@@ -18,11 +18,11 @@ push-ways-requires g c =
 pub loop-level-preserved : goal.loop-level-preserved
 loop-level-preserved g c t₀ h kept closed =
     let a = c.args in
-    levels_more (g.M.SetMap.meaning a.study.now.map) h a.p a.most-ways c.loop-level.level (vec_items a.rows.now) (vec_items c.loop-level.rows) _
-    (c.loop-level.invariant t₀ h kept closed) (c.in-ok-push-ways.ensures t₀ h kept closed)
+    levels_more (g.M.SetMap.meaning a.study.now.map) h a.p a.most_ways c.loop-level.level (vec_items a.rows.now) (vec_items c.loop-level.rows) _
+    (c.loop-level.invariant t₀ h kept closed) (c.in_ok-push_ways.ensures t₀ h kept closed)
 
 pub returns : goal.returns
 returns g c t₀ h kept closed =
     let a = c.args in
-    let all : c.loop-level.level ≡ a.most-levels = omega arith in
-    c.loop-level.invariant t₀ h kept closed ∙ ap (λ n. vec_items a.rows.now ++ level_rows (g.M.SetMap.meaning a.study.now.map) h a.p a.most-ways n) all
+    let all : c.loop-level.level ≡ a.most_levels = omega arith in
+    c.loop-level.invariant t₀ h kept closed ∙ ap (λ n. vec_items a.rows.now ++ level_rows (g.M.SetMap.meaning a.study.now.map) h a.p a.most_ways n) all

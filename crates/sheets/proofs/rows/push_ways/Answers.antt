@@ -7,9 +7,9 @@ use Rattle.sheets.proofs.rows.push_ways.Goals as goal
 pub loop-n-preserved : goal.loop-n-preserved
 loop-n-preserved g c t₀ h kept closed =
     let a = c.args in
-    c.in-ok-push.ensures.items
+    c.in_ok-push.ensures.items
     ∙ ways_more (g.M.SetMap.meaning a.study.now.map) a.study.now.settings (tables_of a.entries.now a.known.now a.marks.now a.counters.now) t₀ h kept (g.met.M.SetMap.lawful a.study.now.map) closed
-    a.p a.level c.loop-n.n _ a.sets c.figures-of-figures.result (vec_items a.rows.now) (vec_items c.loop-n.rows) c.requires.asked.2 refl c.requires.asked.4 c.figures-of-figures.ensures (c.loop-n.invariant t₀ h kept closed)
+    a.p a.level c.loop-n.n _ a.sets c.figures_of-figures.result (vec_items a.rows.now) (vec_items c.loop-n.rows) c.requires.asked.2 refl c.requires.asked.4 c.figures_of-figures.ensures (c.loop-n.invariant t₀ h kept closed)
 
 pub returns : goal.returns
 returns g c t₀ h kept closed =
