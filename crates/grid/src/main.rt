@@ -113,13 +113,24 @@ fn fill_grid<M: SetMap + Copy + Drop>(
     }
 }
 
+fn sizes_of(chosen: Chosen) -> Sizes {
+    Sizes {
+        processors: chosen.processors,
+        shift: chosen.shift,
+        levels: chosen.levels,
+        ways: chosen.ways,
+        blocks: chosen.blocks,
+    }
+}
+
 fn run(rt: &HostRuntime) -> anyhow::Result<()> {
     let request = read_words(rt)?;
-    let Chosen { map, sizes } = match read_settings(request.settings.as_bytes()) {
+    let chosen = match read_settings(request.settings.as_bytes()) {
         Ok(chosen) => chosen,
         Err(refusal) => return Err(refused(refusal)),
     };
-    match map {
+    let sizes = sizes_of(chosen);
+    match chosen.map {
         Map::BitChoice => fill_grid(rt, BitChoice, sizes, &request),
         Map::Thirds => fill_grid(rt, Thirds, sizes, &request),
     }

@@ -1,8 +1,10 @@
+use caches::Figures;
 use report::{Map, RefusedLine};
-use sheets::{Row, Sizes};
 
 mod checking;
+mod feeding;
 mod rendered;
+mod rows;
 mod settings;
 
 pub use checking::evening_sheet;
@@ -13,7 +15,21 @@ pub use settings::read_settings;
 #[derive(Clone, Copy)]
 pub struct Chosen {
     pub map: Map,
-    pub sizes: Sizes,
+    pub processors: u32,
+    pub shift: u32,
+    pub levels: u32,
+    pub ways: u32,
+    pub blocks: u32,
+}
+
+// One line of the sheet: a cache of one processor, level and number of ways.
+#[derive(Clone, Copy)]
+pub struct Row {
+    pub processor: u32,
+    pub level: u32,
+    pub sets: u32,
+    pub ways: u32,
+    pub figures: Figures,
 }
 
 // The evening sheet: a refusal alone, or the refused lines and a line for each cache.

@@ -4,7 +4,6 @@ ghost use Rattle.trace.specs.Text.{pieces};
 
 use super::Chosen;
 use report::take_map;
-use sheets::Sizes;
 use text::cut::count_fields;
 use text::fields::take_number;
 use trace::Refusal;
@@ -22,12 +21,12 @@ pub fn read_settings(line: &[u8]) -> Result<Chosen, Refusal>
     let (levels, rest) = take_number(rest, u32::MAX, 0)?;
     let (ways, rest) = take_number(rest, u32::MAX, 0)?;
     let (blocks, _) = take_number(rest, u32::MAX, 0)?;
-    let sizes = Sizes {
+    Ok(Chosen {
+        map,
         processors,
         shift,
         levels,
         ways,
         blocks,
-    };
-    Ok(Chosen { map, sizes })
+    })
 }
