@@ -4,8 +4,7 @@ use Rattle.setmap.specs.Maps.{bit_choice}
 use Rattle.trace.specs.declared.Block.{Block}
 use Rattle.stack.specs.declared.Entry.{Entry}
 use Rattle.stack.specs.declared.walk.Walk.{Walk}
-use Rattle.stack.specs.Stack.{stack, position}
-use Rattle.stack.specs.Touch.{has_room, after, Answered}
+use Rattle.stack.specs.Touch.{after, Answered}
 use Rattle.bench_stack.specs.Ring.{nth_block, stretch, or_none, told, total, read_at}
 
 pub stretch_more : (blocks n : ℕ) → stretch blocks (n + 1) ≡ after bit_choice (nth_block blocks n) (stretch blocks n)

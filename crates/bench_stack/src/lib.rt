@@ -1,3 +1,5 @@
+#![tactic(auto)]
+
 ghost use Rattle.std.specs.Prelude.{◌≡◌, ◌%◌, ◌<◌, max};
 ghost use Rattle.bench_stack.specs.Ring.{total, read_at};
 

@@ -1,4 +1,6 @@
 // Where a trace that is read in pieces may be cut.
+#![tactic(auto)]
+
 ghost use Rattle.std.specs.Prelude.{◌≡◌, ◌+◌, ◌-◌, ◌%◌, ◌<◌, ◌≤◌, length, take, drop, Some, None};
 ghost use Rattle.cutting.specs.Cutting.{whole_lines, whole, WholeItems, Cut, LeftOver};
 

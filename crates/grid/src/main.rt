@@ -1,3 +1,5 @@
+#![tactic(auto)]
+
 use anyhow::anyhow;
 use cutting::Form;
 use grid_report::{Grid, OpenError, ReadError};
@@ -23,12 +25,14 @@ const TOLD: u64 = 16;
 
 fn refused(refusal: Refusal) -> anyhow::Error {
     match refusal {
-        Refusal::Setting =>
-            anyhow!("the settings are refused with 1: a number is outside its limits"),
+        Refusal::Setting => anyhow!(
+            "the settings are refused with 1: a number is outside its limits"
+        ),
         Refusal::Level => anyhow!("the settings are refused with 2: the map lacks a level"),
         Refusal::Size => anyhow!("the settings are refused with 10: a number is too large"),
-        _ =>
-            anyhow!("the settings are refused with 9: map,processors,shift,levels,ways,blocks is the form"),
+        _ => anyhow!(
+            "the settings are refused with 9: map,processors,shift,levels,ways,blocks is the form"
+        ),
     }
 }
 

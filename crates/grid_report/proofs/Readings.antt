@@ -1,6 +1,6 @@
 -- A trace that is read in pieces is read as a whole.
-use Rattle.std.proofs.Common.{◌≡◌, ℕ, ◌+◌, List, [], ◌∷◌, ◌++◌, length, take, drop, Some, None, Option, sym, refl, ap, ◌∙◌, subst, inl, arith, length-append}
-use Rattle.std.proofs.lemmas.List.{append_assoc, take-append-drop}
+use Rattle.std.proofs.Common.{◌≡◌, ℕ, ◌+◌, List, [], ◌∷◌, ◌++◌, length, Some, None, Option, sym, refl, ap, ◌∙◌, subst, inl, arith, length-append}
+use Rattle.std.proofs.lemmas.List.{append_assoc}
 use Rattle.setmap.specs.Mapping.{Mapping}
 use Rattle.setmap.specs.declared.SetMap.{Ghosts}
 use Rattle.trace.specs.Items.{Item, reference, bad}

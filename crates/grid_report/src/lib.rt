@@ -1,3 +1,5 @@
+#![tactic(auto)]
+
 use cutting::Form;
 use setmap::SetMap;
 use sheets::SheetStudy;

@@ -1,5 +1,5 @@
 -- How often a block stands in a stack, and what a call makes of that.
-use Rattle.std.proofs.Common.{◌≡◌, ℕ, zero, suc, ◌+◌, ◌-◌, ◌≤◌, cond, List, [], ◌∷◌, ◌++◌, replicate, None, refl, ap, ◌∙◌, zero-le, arith}
+use Rattle.std.proofs.Common.{◌≡◌, ℕ, zero, suc, ◌-◌, ◌≤◌, cond, List, [], ◌∷◌, ◌++◌, replicate, None, refl, ap, ◌∙◌, zero-le, arith}
 use Rattle.setmap.specs.Mapping.{Mapping}
 use Rattle.trace.specs.Items.{same}
 use Rattle.trace.specs.declared.Block.{Block as MemoryBlock}

@@ -1,4 +1,6 @@
 // Tables in order: definitions, the proofs that a reference keeps them so, and code that looks whether they are; docs/ARCHITECTURE.md tells who uses them.
+#![tactic(auto)]
+
 ghost use Rattle.order.specs.Keeps.{OrderKept};
 
 pub mod hints;

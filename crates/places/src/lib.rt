@@ -1,3 +1,5 @@
+#![tactic(auto)]
+
 ghost use Rattle.std.specs.Prelude.{◌≡◌, ◌<◌, ◌≤◌, Bool, length, replicate};
 ghost use Rattle.places.specs.Moves.{fronted, closed};
 ghost use Rattle.places.specs.Parts.{more};

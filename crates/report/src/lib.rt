@@ -1,3 +1,5 @@
+#![tactic(auto)]
+
 ghost use Rattle.std.specs.Prelude.{◌≡◌, Ok, Err};
 ghost use Rattle.text.specs.Cuts.{upto, past};
 ghost use Rattle.report.specs.Refused.{refused_line, refused_text};

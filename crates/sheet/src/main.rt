@@ -1,3 +1,5 @@
+#![tactic(auto)]
+
 use report::INPUT_LIMIT;
 use sheet_report::{evening_sheet, render};
 use std::io::Read;

@@ -1,13 +1,12 @@
 -- A call that is passed the whole tables, as one more in a list of calls.
-use Rattle.std.proofs.Common.{◌≡◌, ℕ, true, false, List, [], ◌∷◌, ◌++◌, length, take, drop, Some, None, Option, sym, refl, ap, ◌∙◌, arith}
+use Rattle.std.proofs.Common.{◌≡◌, ℕ, true, List, ◌∷◌, ◌++◌, length, take, drop, Some, Option, ap, ◌∙◌, arith}
 use Rattle.std.proofs.lemmas.List.{take_all, drop_all, append-nil}
 use Rattle.setmap.specs.Mapping.{Mapping}
 use Rattle.trace.specs.Items.{Item}
-use Rattle.trace.specs.declared.Reference.{Reference}
 use Rattle.caches.specs.Caches.{History}
 use Rattle.tables.specs.declared.Settings.{Settings}
 use Rattle.tables.specs.Tables.{Tables, tables_of}
-use Rattle.tables.specs.Calls.{Kept, Outcome, fed}
+use Rattle.tables.specs.Calls.{Kept, fed}
 use Rattle.theory.specs.Runs.{Fronts, front, behind, feeding, closing, of_feed, World, remembered_fed, step}
 use Rattle.sheet_report.specs.Steps.{Reached, Closed}
 

@@ -1,5 +1,5 @@
 -- A turn of the loop that feeds a trace.
-use Rattle.std.proofs.Common.{◌≡◌, ℕ, ◌+◌, ◌-◌, ◌*◌, ◌^◌, ◌<◌, ◌≤◌, Bool, true, false, cond, List, [], ◌∷◌, ◌++◌, length, drop, Some, None, Ok, Err, Option, Result, sym, refl, ap, ◌∙◌, subst, arith}
+use Rattle.std.proofs.Common.{◌≡◌, ℕ, ◌+◌, ◌-◌, ◌*◌, ◌^◌, ◌<◌, ◌≤◌, false, List, [], ◌∷◌, ◌++◌, length, drop, Some, None, Ok, Err, Option, Result, sym, refl, ap, ◌∙◌, subst, arith}
 use Rattle.std.proofs.lemmas.Bool.{cond-false}
 use Rattle.setmap.specs.Mapping.{Mapping, Lawful}
 use Rattle.trace.specs.Items.{Item, reference, bad}
@@ -14,7 +14,6 @@ use Rattle.tables.specs.declared.Fed.{Fed}
 use Rattle.tables.specs.declared.Fed.TheVariants.{Accepted, End}
 use Rattle.tables.specs.Tables.{Tables, tables_of}
 use Rattle.tables.specs.Calls.{Kept, short, reference_refusal, Outcome, outcome, accepted_reference, referenced, fed_answer, fed_first, fed, used_up}
-use Rattle.report.specs.Refused.{refused_line}
 use Rattle.report.specs.declared.RefusedLine.{RefusedLine}
 use Rattle.sheet_report.specs.Evening.{reading}
 use Rattle.sheet_report.specs.Steps.{Reached}

@@ -1,5 +1,5 @@
 -- A trace on its way through the study: what is still to come leads to the same end.
-use Rattle.std.proofs.Common.{◌≡◌, ℕ, ◌+◌, ◌-◌, ◌*◌, ◌^◌, ◌<◌, ◌≤◌, Bool, true, false, cond, List, [], ◌∷◌, ◌++◌, length, drop, Some, None, Ok, Err, Option, Result, sym, refl, ap, ◌∙◌, subst, arith}
+use Rattle.std.proofs.Common.{◌≡◌, ℕ, ◌+◌, ◌-◌, ◌*◌, ◌^◌, ◌<◌, ◌≤◌, false, List, [], ◌∷◌, ◌++◌, length, drop, Some, None, Ok, Err, Option, Result, sym, refl, ap, ◌∙◌, subst, arith}
 use Rattle.std.proofs.lemmas.List.{append-nil, append_assoc}
 use Rattle.std.proofs.lemmas.Bool.{cond-false}
 use Rattle.setmap.specs.Mapping.{Mapping, Lawful}
@@ -10,7 +10,7 @@ use Rattle.trace.specs.declared.Refusal.{Refusal}
 use Rattle.caches.specs.Caches.{History}
 use Rattle.tables.specs.declared.Settings.{Settings}
 use Rattle.tables.specs.declared.Fed.{Fed}
-use Rattle.tables.specs.declared.Fed.TheVariants.{Accepted, End}
+use Rattle.tables.specs.declared.Fed.TheVariants.{End}
 use Rattle.tables.specs.Tables.{Tables}
 use Rattle.tables.specs.Calls.{Kept, short, reference_refusal, outcome, accepted_reference, fed_answer, fed_first, fed}
 use Rattle.theory.specs.Runs.{access, remembered_fed}

@@ -1,5 +1,5 @@
 -- A whole sheet: from the set-up to the rows.
-use Rattle.std.proofs.Common.{◌≡◌, ℕ, ◌+◌, ◌*◌, ◌<◌, ◌≤◌, true, false, ltb, leb, List, [], ◌∷◌, ◌++◌, length, Some, None, Option, sym, refl, ap, ◌∙◌, subst, arith}
+use Rattle.std.proofs.Common.{◌≡◌, ℕ, ◌<◌, ◌≤◌, true, false, ltb, List, [], ◌∷◌, length, Some, None, sym, refl, ap, ◌∙◌, subst, arith}
 use Rattle.std.proofs.lemmas.Bool.{cond-false, le-ltb, ltb-false}
 use Rattle.setmap.specs.Mapping.{Mapping}
 use Rattle.trace.specs.Items.{Item}
@@ -9,7 +9,6 @@ use Rattle.trace.specs.declared.Block.{Block}
 use Rattle.trace.specs.declared.Refusal.{Refusal}
 use Rattle.trace.specs.declared.Refusal.TheVariants.{Setting, Level, ShortTable}
 use Rattle.text.proofs.Counting.{some_piece}
-use Rattle.caches.specs.Caches.{History}
 use Rattle.stack.specs.declared.Entry.{Entry}
 use Rattle.theory.proofs.Steps.{first_none}
 use Rattle.tables.specs.declared.Mark.{Mark}
@@ -17,13 +16,13 @@ use Rattle.tables.specs.declared.Settings.{Settings}
 use Rattle.tables.specs.Tables.{Tables, tables_of, cleared}
 use Rattle.tables.specs.Calls.{Kept, Values, case_of, short, set_up_refusal}
 use Rattle.theory.specs.Faithful.{Faithful}
-use Rattle.theory.specs.Runs.{World, after_set_up}
+use Rattle.theory.specs.Runs.{World}
 use Rattle.report.specs.declared.RefusedLine.{RefusedLine}
 use Rattle.sheet_report.specs.declared.Chosen.{Chosen}
 use Rattle.sheet_report.specs.declared.Row.{Row}
 use Rattle.sheet_report.specs.Settings.{chosen}
 use Rattle.sheet_report.specs.Evening.{Content, whole, reading, rows, studied, settings_refusal, unless_settings, only, first_line, lines_content, evening}
-use Rattle.sheet_report.specs.Steps.{Reached, Closed, PutThrough, Shows}
+use Rattle.sheet_report.specs.Steps.{Reached, PutThrough, Shows}
 use Rattle.sheet_report.proofs.Runs.{closes}
 use Rattle.sheet_report.proofs.Turns.{short_same}
 

@@ -1,5 +1,5 @@
 -- A bulk feed, item by item, is a reading: it accepts the same references and refuses the same lines.
-use Rattle.std.proofs.Common.{◌≡◌, ℕ, ◌+◌, ◌*◌, ◌≤◌, Bool, true, false, ◌||◌, ltb, List, [], ◌∷◌, ◌++◌, map, length, Some, None, Ok, Err, Option, Result, sym, refl, ap, ◌∙◌, subst, arith}
+use Rattle.std.proofs.Common.{◌≡◌, ℕ, ◌+◌, ◌*◌, ◌≤◌, false, List, [], ◌∷◌, ◌++◌, map, length, Some, None, Ok, Err, Option, Result, sym, refl, ap, ◌∙◌, subst, arith}
 use Rattle.std.proofs.lemmas.List.{append-nil, append_assoc, map_push}
 use Rattle.std.proofs.lemmas.Bool.{le-ltb}
 use Rattle.setmap.specs.Mapping.{Mapping, Lawful}
@@ -10,7 +10,6 @@ use Rattle.trace.specs.declared.Refusal.{Refusal}
 use Rattle.caches.specs.Caches.{History}
 use Rattle.tables.specs.declared.Settings.{Settings}
 use Rattle.tables.specs.declared.Fed.{Fed}
-use Rattle.tables.specs.declared.Fed.TheVariants.{Accepted, End}
 use Rattle.tables.specs.Tables.{Tables, row}
 use Rattle.tables.specs.Calls.{Kept, short, reference_refusal, outcome, accepted_reference, fed_answer, fed_item, fed}
 use Rattle.tables.specs.Bulk.{Standing, faulted, fed_all}
@@ -21,7 +20,7 @@ use Rattle.theory.proofs.Steps.{allowed, referenced_stands}
 use Rattle.theory.proofs.Worlds.{run_good}
 use Rattle.report.specs.Refused.{refused_line, Reading, refused_too}
 use Rattle.report.specs.declared.RefusedLine.{RefusedLine}
-use Rattle.sheets.specs.Sheets.{verdict, reading, fault_line}
+use Rattle.sheets.specs.Sheets.{reading, fault_line}
 use Rattle.sheets.specs.Steps.{Reached}
 use Rattle.sheets.proofs.Runs.{reached_fed}
 use Rattle.sheets.proofs.Verdicts.{agree}

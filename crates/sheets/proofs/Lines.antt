@@ -1,5 +1,5 @@
 -- The figures that a closed study counts are the separate caches', so the sheet's lines are.
-use Rattle.std.proofs.Common.{◌≡◌, ℕ, suc, ◌+◌, ◌-◌, ◌<◌, min, List, [], ◌∷◌, ◌++◌, Ok, sym, ap, ◌∙◌, subst, add-one, arith}
+use Rattle.std.proofs.Common.{◌≡◌, ℕ, suc, ◌+◌, ◌<◌, List, [], ◌∷◌, ◌++◌, Ok, sym, ap, ◌∙◌, subst, add-one, arith}
 use Rattle.std.proofs.lemmas.List.{append_assoc}
 use Rattle.setmap.specs.Mapping.{Mapping, Lawful, offered}
 use Rattle.caches.specs.declared.Figures.{Figures}

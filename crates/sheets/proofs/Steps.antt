@@ -1,5 +1,5 @@
 -- The steps of a study with tables of its own: set-up, bulk feeds, and the rows.
-use Rattle.std.proofs.Common.{◌≡◌, ℕ, ◌+◌, ◌*◌, ◌≤◌, true, false, List, [], ◌∷◌, map, length, Some, None, Ok, vec_items, vec_len, sym, refl, ap, ◌∙◌, subst}
+use Rattle.std.proofs.Common.{◌≡◌, ℕ, ◌+◌, ◌*◌, ◌≤◌, true, false, List, [], ◌∷◌, map, length, Some, None, Ok, vec_items, vec_len, sym, ap, ◌∙◌, subst}
 use Rattle.std.specs.Vec.{with_items}
 use Rattle.std.proofs.lemmas.List.{with_items_is}
 use Rattle.setmap.specs.Mapping.{Mapping, Lawful}
@@ -15,7 +15,7 @@ use Rattle.tables.specs.declared.Mark.{Mark}
 use Rattle.tables.specs.declared.Settings.{Settings}
 use Rattle.tables.specs.Tables.{Tables, tables_of, cleared}
 use Rattle.tables.specs.Calls.{Kept, Values, case_of, short, set_up_refusal}
-use Rattle.tables.specs.Bulk.{Standing, standing_of, fed_all, FedThrough}
+use Rattle.tables.specs.Bulk.{standing_of, fed_all, FedThrough}
 use Rattle.sheets.specs.declared.Row.{Row}
 use Rattle.sheets.specs.declared.owned.OwnTables.{OwnTables}
 use Rattle.sheets.specs.Sheets.{reading, rows, fault_line}

@@ -1,3 +1,5 @@
+#![tactic(auto)]
+
 use caches::Figures;
 
 mod faults;

@@ -1,5 +1,5 @@
 -- The tables of all processors: the sets' frames and the counters lie apart, so a change to one leaves the others.
-use Rattle.std.proofs.Common.{◌≡◌, ℕ, ◌+◌, ◌-◌, ◌*◌, ◌^◌, ◌<◌, ◌≤◌, Bool, true, false, cond, ltb, ◌⊎◌, List, length, get_or, Option, sym, refl, ap, ◌∙◌, subst, inl, inr, arith}
+use Rattle.std.proofs.Common.{◌≡◌, ℕ, ◌+◌, ◌-◌, ◌*◌, ◌^◌, ◌<◌, ◌≤◌, Bool, true, false, cond, ltb, ◌⊎◌, List, length, get_or, Option, refl, ◌∙◌, inl, inr, arith}
 use Rattle.std.proofs.lemmas.Bool.{cases_eq, cases_lt, ltb-false, or_parts}
 use Rattle.places.specs.Parts.{part, put, start, more}
 use Rattle.places.proofs.Portions.{rows, part_in, apart, part_put, part_put-out, length-put, length_more, more_at, more_out}

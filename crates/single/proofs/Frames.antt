@@ -1,11 +1,10 @@
 -- One set's frames: where a block stands in them, and what bringing it to the front and closing the gap make of their list.
-use Rattle.std.proofs.Common.{◌≡◌, ℕ, zero, suc, ◌+◌, ◌-◌, ◌<◌, ◌≤◌, max, true, false, cond, ltb, List, [], ◌∷◌, ◌++◌, map, length, get_or, take, drop, set, replicate, Some, None, Option, sym, refl, ap, ◌∙◌, arith}
+use Rattle.std.proofs.Common.{◌≡◌, ℕ, suc, ◌+◌, ◌-◌, ◌<◌, ◌≤◌, max, true, false, ltb, List, [], ◌∷◌, ◌++◌, map, length, take, drop, set, replicate, Some, None, Option, sym, refl, ap, ◌∙◌, arith}
 use Rattle.std.proofs.lemmas.List.{length-map, length-append, take_at, take-map, take_all, take-set, drop-set-lt, get_or-set_same, append_assoc}
 use Rattle.std.proofs.lemmas.Bool.{both_ways, cond-true, cond-false, lt-ltb}
 use Rattle.places.specs.Moves.{fronted, closed}
 use Rattle.places.specs.Place.{place}
 use Rattle.places.proofs.Fronts.{fronted_inside}
-use Rattle.trace.specs.Items.{same}
 use Rattle.trace.specs.declared.Block.{Block}
 use Rattle.trace.proofs.Blocks.{same_equal}
 use Rattle.caches.specs.Caches.{among, without, used}

@@ -1,6 +1,6 @@
 -- The frames of a set: a list of blocks, and empty frames up to the ways.
-use Rattle.std.proofs.Common.{◌≡◌, ℕ, zero, suc, ◌+◌, ◌-◌, ◌<◌, ◌≤◌, max, true, false, List, [], ◌∷◌, ◌++◌, map, length, take, drop, replicate, Some, None, Option, sym, refl, ap, ◌∙◌, append_assoc, arith}
-use Rattle.std.proofs.lemmas.List.{length-append, length-map, length-replicate, drop-replicate, drop-drop, drop_at, replicate-append-replicate, take-append-drop}
+use Rattle.std.proofs.Common.{◌≡◌, ℕ, zero, suc, ◌+◌, ◌-◌, ◌≤◌, max, List, [], ◌∷◌, ◌++◌, map, length, drop, replicate, Some, None, Option, sym, refl, ap, ◌∙◌, arith}
+use Rattle.std.proofs.lemmas.List.{length-append, length-map, length-replicate, drop-replicate, drop-drop, drop_at, replicate-append-replicate}
 use Rattle.trace.specs.declared.Block.{Block}
 use Rattle.single.specs.Calls.{list_of, relisted}
 

@@ -1,12 +1,12 @@
 -- One processor's caches after a history, and what each kind of access makes of them.
-use Rattle.std.proofs.Common.{◌≡◌, ℕ, ◌+◌, ◌-◌, ◌*◌, ◌^◌, ◌<◌, ◌≤◌, Bool, true, false, cond, not, ◌&&◌, List, ◌∷◌, length, get_or, Option, sym, refl, ap, ◌∙◌, inl, inr, arith}
+use Rattle.std.proofs.Common.{◌≡◌, ℕ, ◌+◌, ◌-◌, ◌^◌, ◌<◌, ◌≤◌, Bool, true, false, cond, not, ◌&&◌, List, ◌∷◌, length, get_or, Option, sym, refl, ap, ◌∙◌, inl, inr, arith}
 use Rattle.std.proofs.lemmas.Bool.{cases_eq}
 use Rattle.places.specs.Parts.{part, put, start, more}
 use Rattle.places.proofs.Portions.{part_in, length_more, more_at, more_out}
 use Rattle.setmap.specs.Mapping.{Mapping}
 use Rattle.trace.specs.Items.{writes}
 use Rattle.trace.specs.declared.Block.{Block}
-use Rattle.caches.specs.Caches.{Access, History, among, without, used, own, others_write, listed, holding, tally, figures}
+use Rattle.caches.specs.Caches.{Access, History, among, without, used, own, others_write, listed, holding, figures}
 use Rattle.caches.proofs.Used.{without-short, used-short}
 use Rattle.caches.proofs.Listed.{listed-short, listed_own, listed_own_elsewhere, listed_write, listed_write_elsewhere, listed_read}
 use Rattle.caches.proofs.Tallies.{tally-short}

@@ -1,6 +1,6 @@
 -- The tables stand for a history: all processors' rows do. It looks only at what the cache uses, so it survives front parts.
-use Rattle.std.proofs.Common.{◌≡◌, ℕ, zero, suc, ◌+◌, ◌-◌, ◌*◌, ◌^◌, ◌<◌, ◌≤◌, Bool, true, false, cond, eqb, List, [], ◌∷◌, ◌++◌, length, get_or, take, drop, replicate, None, sym, refl, ap, ◌∙◌, subst, inl, inr, append_assoc, arith}
-use Rattle.std.proofs.lemmas.List.{length-take, length-append, length-replicate, get_or-take, get_or_append_left, get_or-replicate, drop-replicate, take-replicate, take-append-drop}
+use Rattle.std.proofs.Common.{◌≡◌, ℕ, zero, suc, ◌+◌, ◌-◌, ◌*◌, ◌^◌, ◌<◌, ◌≤◌, true, false, cond, eqb, List, [], ◌∷◌, ◌++◌, length, get_or, take, drop, replicate, None, sym, refl, ap, ◌∙◌, subst, inl, inr, arith}
+use Rattle.std.proofs.lemmas.List.{length-take, length-replicate, get_or-take, get_or_append_left, get_or-replicate, drop-replicate, take-replicate, take-append-drop}
 use Rattle.std.proofs.lemmas.Bool.{cases_eq, cases_Bool, eq-eqb, ne_eqb, cond-true, cond-false}
 use Rattle.places.specs.Parts.{part, put, start}
 use Rattle.places.proofs.Portions.{part_in, part_front, part_before}
@@ -9,7 +9,7 @@ use Rattle.trace.specs.Items.{writes}
 use Rattle.trace.specs.declared.Block.{Block}
 use Rattle.caches.specs.Caches.{Access, History, own}
 use Rattle.single.specs.declared.Settings.{Settings}
-use Rattle.single.specs.Calls.{Tables, level_in, set_of, set_start, frames_needed, references_at, cleared, own_reference, others_write_to, others_write_all}
+use Rattle.single.specs.Calls.{Tables, level_in, set_of, set_start, frames_needed, cleared, own_reference, others_write_to, others_write_all}
 use Rattle.single.specs.Runs.{Fronts, front, behind}
 use Rattle.single.specs.Limits.{Long}
 use Rattle.single.proofs.Apart.{Alike, alike_trans, long_alike, set_in}

@@ -1,9 +1,8 @@
 -- Every list of calls keeps the tables standing for the accepted references, so each answer is the separate cache's.
-use Rattle.std.proofs.Common.{◌≡◌, ℕ, ◌+◌, ◌-◌, ◌^◌, ◌<◌, ◌≤◌, min, Bool, true, false, cond, eqb, ltb, leb, List, [], ◌∷◌, length, get_or, Some, None, Ok, Err, Option, sym, refl, ap, ◌∙◌, subst, arith}
+use Rattle.std.proofs.Common.{◌≡◌, ℕ, ◌+◌, ◌-◌, ◌^◌, ◌<◌, ◌≤◌, Bool, true, false, cond, eqb, ltb, leb, List, [], ◌∷◌, length, get_or, Some, None, Option, sym, refl, ap, ◌∙◌, subst, arith}
 use Rattle.std.specs.List.{AllByRecursion as All}
 use Rattle.std.proofs.lemmas.Bool.{ltb-false, leb-false, eqb-false, or_parts}
 use Rattle.setmap.specs.Mapping.{Mapping, Lawful}
-use Rattle.trace.specs.Items.{block_of}
 use Rattle.trace.specs.Refusals.{outside, unless_refused}
 use Rattle.trace.specs.declared.Reference.{Reference}
 use Rattle.trace.specs.declared.Refusal.{Refusal}
@@ -11,11 +10,10 @@ use Rattle.trace.specs.declared.Refusal.TheVariants.{Setting, Level, ShortTable,
 use Rattle.caches.specs.Caches.{History, figures}
 use Rattle.single.specs.declared.Settings.{Settings}
 use Rattle.single.specs.declared.Tallies.{Tallies}
-use Rattle.single.specs.Calls.{Tables, level_in, set_of, references_at, hits_at, drops_at, short, unlimited, set_up_refusal, reference_refusal, question_refusal, cleared, outcome, referenced, applied, tallied}
-use Rattle.single.specs.Runs.{Fronts, front, behind, Call, referring, asking, Said, of_reference, of_question, World, access, remembered, after_set_up, after_call, step, run, tallies, AsCache, AsSeparate}
+use Rattle.single.specs.Calls.{Tables, level_in, references_at, hits_at, drops_at, short, unlimited, set_up_refusal, reference_refusal, question_refusal, cleared, outcome, applied}
+use Rattle.single.specs.Runs.{Fronts, front, behind, Call, referring, asking, of_reference, of_question, World, access, remembered, after_set_up, after_call, step, run, tallies, AsCache, AsSeparate}
 use Rattle.single.specs.Limits.{Long}
 use Rattle.single.proofs.Apart.{long, long_alike}
-use Rattle.single.proofs.Rows.{Row}
 use Rattle.single.proofs.Stands.{Stands, applied_stands, stands_front, stands_behind, behind_front, stands_cleared}
 
 pub record Good (m : Mapping) (s : Settings) (w : World) : Type 0 where

@@ -1,5 +1,5 @@
 -- What a single cache's settings and the tables of an unrefused call keep to.
-use Rattle.std.specs.Prelude.{ℕ, ◌*◌, ◌≤◌, length}
+use Rattle.std.specs.Prelude.{◌*◌, ◌≤◌, length}
 use Rattle.setmap.specs.Mapping.{Mapping}
 use Rattle.single.specs.declared.Settings.{Settings}
 use Rattle.single.specs.Calls.{Tables, frames_needed}

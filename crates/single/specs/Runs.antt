@@ -8,7 +8,7 @@ use Rattle.trace.specs.declared.Refusal.{Refusal}
 use Rattle.caches.specs.Caches.{Access, History, figures}
 use Rattle.single.specs.declared.Settings.{Settings}
 use Rattle.single.specs.declared.Tallies.{Tallies}
-use Rattle.single.specs.Calls.{Tables, cleared, set_up_refusal, Outcome, referenced, tallied}
+use Rattle.single.specs.Calls.{Tables, cleared, set_up_refusal, referenced, tallied}
 
 -- how much of each table a call is passed, from the front
 pub record Fronts : Type 0 where

@@ -1,3 +1,5 @@
+#![tactic(auto)]
+
 use trace::{Block, Refusal};
 
 mod cache;

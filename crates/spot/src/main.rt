@@ -1,3 +1,5 @@
+#![tactic(auto)]
+
 use report::INPUT_LIMIT;
 use spot_report::{render, spot_check};
 use std::io::Read;

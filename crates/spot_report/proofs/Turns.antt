@@ -1,5 +1,5 @@
 -- A turn of the loop that feeds a trace.
-use Rattle.std.proofs.Common.{◌≡◌, ℕ, zero, suc, ◌+◌, ◌-◌, ◌^◌, ◌<◌, ◌≤◌, Bool, true, false, cond, List, [], ◌∷◌, ◌++◌, length, drop, Ok, Err, Result, sym, refl, ap, ◌∙◌, subst, arith}
+use Rattle.std.proofs.Common.{◌≡◌, ℕ, ◌+◌, ◌-◌, ◌^◌, ◌<◌, ◌≤◌, Bool, true, false, List, [], ◌∷◌, ◌++◌, length, drop, Ok, Err, sym, ap, ◌∙◌, subst, arith}
 use Rattle.setmap.specs.Mapping.{Mapping}
 use Rattle.trace.specs.Items.{Item, reference, bad}
 use Rattle.trace.specs.Refusals.{outside}
@@ -8,10 +8,8 @@ use Rattle.caches.specs.Caches.{History}
 use Rattle.single.specs.declared.Settings.{Settings}
 use Rattle.single.specs.Calls.{Tables, short}
 use Rattle.report.specs.declared.RefusedLine.{RefusedLine}
-use Rattle.spot_report.specs.declared.feeding.Fed.{Fed}
 use Rattle.spot_report.specs.declared.feeding.Fed.TheVariants.{Accepted, End}
 use Rattle.report.specs.Refused.{refused_line}
-use Rattle.spot_report.specs.Spot.{reading}
 use Rattle.spot_report.specs.Steps.{fed_answer, fed_accepted, fed_tables, Reached}
 use Rattle.spot_report.proofs.Underway.{Underway, judged, underway_end, underway_accepted, underway_fault}
 

@@ -1,7 +1,7 @@
 -- A trace on its way through the cache: what is still to come leads to the same end.
-use Rattle.std.proofs.Common.{◌≡◌, ℕ, ◌+◌, ◌-◌, ◌^◌, ◌<◌, Bool, true, false, cond, ltb, List, [], ◌∷◌, ◌++◌, length, take, drop, Some, None, Ok, Err, Option, Result, sym, refl, ap, ◌∙◌, subst, inl, inr, arith}
+use Rattle.std.proofs.Common.{◌≡◌, ℕ, ◌+◌, ◌-◌, ◌^◌, ◌<◌, Bool, true, false, cond, List, [], ◌∷◌, ◌++◌, length, take, drop, Some, None, Ok, Err, Option, Result, sym, refl, ap, ◌∙◌, subst, arith}
 use Rattle.std.proofs.lemmas.List.{take_all, drop_all, append-nil, append_assoc}
-use Rattle.std.proofs.lemmas.Bool.{cases_Bool, cond-true, cond-false}
+use Rattle.std.proofs.lemmas.Bool.{cond-true, cond-false}
 use Rattle.setmap.specs.Mapping.{Mapping}
 use Rattle.trace.specs.Items.{Item, reference, bad}
 use Rattle.trace.specs.Refusals.{outside}
@@ -14,7 +14,7 @@ use Rattle.trace.specs.declared.Refusal.TheVariants.{Processor}
 use Rattle.caches.specs.Caches.{History}
 use Rattle.single.specs.declared.Settings.{Settings}
 use Rattle.single.specs.Calls.{Tables, tables_of, short, applied, reference_refusal, Outcome, outcome}
-use Rattle.single.specs.Runs.{Fronts, front, behind, Call, referring, Said, of_reference, World, access, remembered, step, run}
+use Rattle.single.specs.Runs.{Fronts, front, behind, referring, Said, of_reference, World, access, remembered, step}
 use Rattle.report.specs.declared.RefusedLine.{RefusedLine}
 use Rattle.spot_report.specs.declared.feeding.Fed.{Fed}
 use Rattle.spot_report.specs.declared.feeding.Fed.TheVariants.{Accepted, End}

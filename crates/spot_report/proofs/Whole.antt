@@ -1,5 +1,5 @@
 -- A whole spot check: from the set-up to the rows.
-use Rattle.std.proofs.Common.{◌≡◌, ℕ, ◌+◌, ◌-◌, ◌^◌, ◌<◌, ◌≤◌, false, ltb, leb, List, [], ◌∷◌, ◌++◌, length, None, Option, sym, refl, ap, ◌∙◌, subst, arith}
+use Rattle.std.proofs.Common.{◌≡◌, ℕ, ◌<◌, ◌≤◌, false, ltb, leb, List, [], ◌∷◌, length, None, Option, sym, refl, ap, ◌∙◌, subst, arith}
 use Rattle.std.proofs.lemmas.Bool.{cond-false, le-ltb}
 use Rattle.setmap.specs.Mapping.{Mapping}
 use Rattle.trace.specs.Items.{Item}
@@ -9,7 +9,7 @@ use Rattle.text.proofs.Counting.{some_piece}
 use Rattle.trace.specs.declared.Refusal.TheVariants.{Setting, Level, ShortTable}
 use Rattle.single.specs.declared.Settings.{Settings}
 use Rattle.single.specs.Calls.{Tables, tables_of, unlimited, short, set_up_refusal, cleared}
-use Rattle.single.specs.Runs.{AsSeparate, after_set_up}
+use Rattle.single.specs.Runs.{after_set_up}
 use Rattle.single.proofs.Worlds.{no_first}
 use Rattle.caches.specs.Caches.{History}
 use Rattle.report.specs.declared.RefusedLine.{RefusedLine}

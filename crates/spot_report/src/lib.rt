@@ -1,3 +1,5 @@
+#![tactic(auto)]
+
 use report::{Map, RefusedLine};
 use single::{Settings, Tallies};
 

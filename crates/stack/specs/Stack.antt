@@ -1,5 +1,5 @@
 -- The marker stack of one processor.
-use Rattle.std.specs.Prelude.{ℕ, zero, suc, ◌+◌, ◌-◌, Bool, true, false, cond, ◌&&◌, List, [], ◌∷◌, ◌++◌, length, drop, replicate, Some, None, Option, nat_le, nat_lt}
+use Rattle.std.specs.Prelude.{ℕ, ◌+◌, ◌-◌, Bool, false, cond, ◌&&◌, List, [], ◌∷◌, ◌++◌, length, drop, replicate, Some, None, Option, nat_le, nat_lt}
 use Rattle.setmap.specs.Mapping.{Mapping, shared}
 use Rattle.trace.specs.Items.{same}
 use Rattle.trace.specs.declared.Block.{Block as MemoryBlock}

@@ -1,3 +1,5 @@
+#![tactic(auto)]
+
 use levels::Levels;
 use trace::Block;
 

@@ -1,5 +1,5 @@
 -- References to tables in order.
-use Rattle.std.proofs.Common.{◌≡◌, ℕ, ◌<◌, ◌≤◌, true, false, length, get_or, take, set, Ok, Err, Result, sym, refl, ap, ◌∙◌, subst, arith, length-set, length-take}
+use Rattle.std.proofs.Common.{◌≡◌, ℕ, ◌<◌, ◌≤◌, true, false, length, get_or, take, set, Ok, Err, Result, sym, ap, ◌∙◌, subst, arith, length-set, length-take}
 use Rattle.std.proofs.lemmas.List.{get_or-set_same}
 use Rattle.places.proofs.Places.{place-within}
 use Rattle.setmap.specs.Mapping.{Mapping}

@@ -1,5 +1,5 @@
 -- What the stack's work on a processor's stretch does to the whole table of entries.
-use Rattle.std.proofs.Common.{◌≡◌, ℕ, ◌+◌, ◌<◌, ◌≤◌, true, false, cond, ltb, leb, List, ◌++◌, length, take, drop, Some, None, Option, sym, ap, ◌∙◌, subst, arith}
+use Rattle.std.proofs.Common.{◌≡◌, ℕ, ◌+◌, ◌≤◌, List, ◌++◌, length, take, drop, Some, None, Option, ap, ◌∙◌, subst, arith}
 use borrow.Rule.Slice.PartMut.{put_mid}
 use Rattle.std.proofs.lemmas.List.{take-append-drop}
 use Rattle.std.proofs.lemmas.Bool.{cond-true, cond-false, leb-true, leb-false, lt-ltb, le-ltb}
@@ -9,7 +9,7 @@ use Rattle.setmap.specs.Mapping.{Mapping}
 use Rattle.trace.specs.declared.Block.{Block}
 use Rattle.stack.specs.declared.Entry.{Entry}
 use Rattle.stack.specs.declared.walk.Walk.{Walk}
-use Rattle.stack.specs.Stack.{stack, touched, dropped, restack}
+use Rattle.stack.specs.Stack.{stack, touched, restack}
 use Rattle.stack.specs.Touch.{has_room, after, Answered}
 use Rattle.stack.specs.Walk.{Walked}
 use Rattle.tables.specs.declared.Settings.{Settings}

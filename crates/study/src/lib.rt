@@ -1,3 +1,5 @@
+#![tactic(auto)]
+
 use trace::Refusal;
 
 mod blocks;

@@ -10,7 +10,7 @@ use Rattle.tables.specs.declared.Fed.{Fed}
 use Rattle.tables.specs.declared.Fed.TheVariants.{Accepted, End}
 use Rattle.tables.specs.declared.Settings.{Settings}
 use Rattle.tables.specs.Tables.{Tables}
-use Rattle.tables.specs.Calls.{Kept, Outcome, short, fed, fed_first, fed_item, fed_answer, referenced}
+use Rattle.tables.specs.Calls.{Kept, short, fed, fed_first, fed_answer, referenced}
 use Rattle.tables.specs.Bulk.{Standing, standing_of, faulted, Handed, fed_all, FedThrough}
 
 -- some of the items have been fed, and these are still to come

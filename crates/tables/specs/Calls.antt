@@ -1,5 +1,5 @@
 -- What each call of a study answers and leaves, for all contents of the tables that it is passed.
-use Rattle.std.specs.Prelude.{ℕ, zero, suc, ◌+◌, ◌-◌, ◌*◌, ◌^◌, Bool, true, false, cond, ◌&&◌, ◌||◌, List, [], ◌∷◌, length, get_or, take, Some, None, Ok, Err, sum, Option, Result, ◌==◌, nat_le, nat_lt, slice_index, slice_index_or, slice_set}
+use Rattle.std.specs.Prelude.{ℕ, zero, suc, ◌+◌, ◌-◌, ◌*◌, ◌^◌, Bool, false, cond, ◌&&◌, ◌||◌, List, [], ◌∷◌, length, get_or, take, Some, None, Ok, Err, sum, Option, Result, ◌==◌, nat_le, nat_lt, slice_index, slice_index_or, slice_set}
 use Rattle.places.specs.Parts.{part, put, start, more}
 use Rattle.places.specs.Place.{place}
 use Rattle.setmap.specs.Mapping.{Mapping}
@@ -21,7 +21,7 @@ use Rattle.tables.specs.declared.Fed.TheVariants.{Accepted, End}
 use Rattle.tables.specs.declared.Mark.{Mark}
 use Rattle.tables.specs.declared.Mark.TheVariants.{Never, Held, Lost}
 use Rattle.tables.specs.declared.Settings.{Settings}
-use Rattle.tables.specs.Tables.{Tables, tables_of, row, references_at, cold_at, lost_at, hits_from, drops_from, stretch, mark_at, cleared}
+use Rattle.tables.specs.Tables.{Tables, row, references_at, cold_at, lost_at, hits_from, drops_from, stretch, mark_at}
 
 -- what an open study keeps besides its settings
 pub record Kept : Type 0 where

@@ -1,3 +1,5 @@
+#![tactic(auto)]
+
 pub mod marks;
 pub mod scoring;
 pub mod sums;

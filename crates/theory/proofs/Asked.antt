@@ -4,7 +4,7 @@ use Rattle.std.proofs.lemmas.Bool.{cases_Bool, lt-ltb, le-ltb, leb-false, lt-leb
 use Rattle.setmap.specs.Mapping.{Mapping, Lawful}
 use Rattle.trace.specs.declared.Block.{Block}
 use Rattle.trace.specs.declared.Refusal.TheVariants.{ShortTable, Processor, Question}
-use Rattle.caches.specs.Caches.{History, own, others_write, among, holding, tally, figures, lost}
+use Rattle.caches.specs.Caches.{History, own, others_write, among, holding, tally, figures}
 use Rattle.stack.specs.Stack.{stack, position, within}
 use Rattle.tables.specs.declared.Settings.{Settings}
 use Rattle.tables.specs.Tables.{Tables, row, stretch, hits_from, drops_from}

@@ -2,7 +2,7 @@
 use Rattle.std.proofs.Common.{◌≡◌, ℕ, zero, suc, ◌+◌, ◌-◌, ◌*◌, ◌^◌, ◌<◌, ◌≤◌, Bool, true, false, cond, not, ◌&&◌, List, [], ◌∷◌, ◌++◌, length, get_or, take, drop, Some, None, sum, Option, sym, refl, ap, ◌∙◌, inl, inr, mul_assoc, arith, length-drop, get_or-drop, take-suc}
 use Rattle.std.proofs.lemmas.List.Sums.{fold_push}
 use Rattle.setmap.specs.Mapping.{Mapping}
-use Rattle.trace.specs.Items.{same, writes}
+use Rattle.trace.specs.Items.{writes}
 use Rattle.caches.specs.Caches.{Access, History, own, others_write, tally, Past, never, held, lost, past, is_never, is_lost}
 use Rattle.stack.specs.Stack.{position, within}
 use Rattle.tables.specs.declared.Mark.{Mark}

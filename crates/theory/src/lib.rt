@@ -1,4 +1,6 @@
 // What every list of calls on a study keeps to, whatever the map and the settings: the function does nothing, and its contract states the theorem.
+#![tactic(auto)]
+
 ghost use Rattle.setmap.specs.Mapping.{Mapping, Lawful};
 ghost use Rattle.tables.specs.declared.Settings.{Settings};
 ghost use Rattle.theory.specs.Faithful.{Faithful};

@@ -1,5 +1,5 @@
 -- What a source's answer tells of the items that it had.
-use Rattle.std.proofs.Common.{◌≡◌, ℕ, ◌+◌, List, [], ◌∷◌, Some, None, Ok, Err, sym, refl, ◌∙◌, arith}
+use Rattle.std.proofs.Common.{◌≡◌, ℕ, ◌+◌, List, [], ◌∷◌, Some, None, Ok, Err, refl, arith}
 use Rattle.trace.specs.Items.{Item, reference, bad}
 use Rattle.trace.specs.Next.{Given}
 use Rattle.trace.specs.declared.Reference.{Reference}

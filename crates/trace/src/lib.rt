@@ -1,3 +1,5 @@
+#![tactic(auto)]
+
 ghost use Rattle.std.specs.Prelude.{◌≡◌, ℕ, Bool, List};
 ghost use Rattle.trace.specs.Items.{same, block_of, number_of, Item};
 ghost use Rattle.trace.specs.Next.{Given, Taken};

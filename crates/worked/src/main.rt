@@ -1,4 +1,6 @@
 // Worked inputs of the study, the readers and the sheet; what is printed is compared with `stdout`.
+#![tactic(auto)]
+
 use records::Records;
 use setmap::bit_choice::BitChoice;
 use sheet_report::{evening_sheet, render};

@@ -1,10 +1,10 @@
 -- Worked references: what the rules give on examples, each small enough to be followed by hand.
-use Rattle.std.specs.Prelude.{◌≡◌, ℕ, ◌*◌, Bool, true, false, List, [], ◌∷◌, ◌++◌, reverse, length, replicate, Some, None, Ok, Err, Option, Result}
+use Rattle.std.specs.Prelude.{◌≡◌, ℕ, ◌*◌, true, false, List, [], ◌∷◌, ◌++◌, reverse, length, replicate, Some, None, Ok, Err, Option}
 use Rattle.setmap.specs.Mapping.{Mapping, shared}
 use Rattle.setmap.specs.Maps.{bit_choice, thirds}
 use Rattle.trace.specs.declared.Operation.{Operation}
 use Rattle.trace.specs.declared.Operation.TheVariants.{Read, Write}
-use Rattle.trace.specs.declared.Refusal.TheVariants.{Processor, Entries}
+use Rattle.trace.specs.declared.Refusal.TheVariants.{Entries}
 use Rattle.caches.specs.declared.Figures.{Figures}
 use Rattle.caches.specs.Caches.{Access, History, figures, holding}
 use Rattle.stack.specs.declared.Entry.{Entry}
@@ -13,7 +13,7 @@ use Rattle.stack.specs.Stack.{stack, position}
 use Rattle.stack.specs.Worked.{blk, WorkedReference}
 use Rattle.tables.specs.declared.Mark.TheVariants.{Never}
 use Rattle.tables.specs.declared.Settings.{Settings}
-use Rattle.tables.specs.Tables.{Tables, row, stretch}
+use Rattle.tables.specs.Tables.{Tables, stretch}
 use Rattle.theory.specs.Runs.{Fronts, Call, referring, closing, count_asked, Said, of_reference, of_feed, of_holds, of_count, World, run}
 
 -- ---- lists of calls on a study of two processors, two levels and two ways, with so many entries

@@ -1,4 +1,4 @@
-use Rattle.std.proofs.Common.{◌≡◌, ◌+◌, vec_items, sym, ap, ◌∙◌, subst}
+use Rattle.std.proofs.Common.{◌+◌, vec_items, sym, ap, ◌∙◌, subst}
 use Rattle.sheets.specs.Sheets.{rows}
 use Rattle.sheets.specs.Studies.{HasAccepted, PutThrough}
 use Rattle.cutting.specs.Cutting.{items_of}

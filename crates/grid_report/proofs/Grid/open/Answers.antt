@@ -1,4 +1,4 @@
-use Rattle.std.proofs.Common.{sym, refl, ◌∙◌, subst}
+use Rattle.std.proofs.Common.{sym, refl, ◌∙◌}
 use Rattle.sheets.specs.Settings.{settings_of}
 use Rattle.sheets.specs.Steps.{lists_of}
 use Rattle.grid_report.proofs.Settings.{fits}

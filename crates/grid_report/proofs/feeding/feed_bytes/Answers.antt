@@ -1,4 +1,4 @@
-use Rattle.std.proofs.Common.{◌≡◌, ◌+◌, ◌^◌, ◌<◌, length, vec_items, sym, ap, ◌∙◌, arith}
+use Rattle.std.proofs.Common.{◌+◌, ◌^◌, ◌<◌, length, vec_items, sym, ap, ◌∙◌, arith}
 use Rattle.trace.specs.Text.{text_items}
 use Rattle.trace.specs.Records.{record_items}
 use Rattle.cutting.specs.Cutting.{items_of}

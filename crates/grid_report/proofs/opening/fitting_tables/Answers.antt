@@ -1,6 +1,5 @@
 use Rattle.std.proofs.Common.{arith}
 use Rattle.std.proofs.lemmas.Result.{IfOk-weaker}
-use Rattle.theory.proofs.Places.{Long}
 use Rattle.sheets.specs.Settings.{settings_of}
 use Rattle.sheets.specs.Steps.{lists_of}
 use Rattle.sheets.proofs.Feeds.{not_short}

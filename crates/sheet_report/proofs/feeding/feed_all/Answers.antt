@@ -1,4 +1,4 @@
-use Rattle.std.proofs.Common.{◌≡◌, ℕ, ◌+◌, ◌-◌, ◌*◌, ◌^◌, ◌<◌, ◌≤◌, [], ◌∷◌, ◌++◌, length, Ok, Err, vec_items, sym, ap, ◌∙◌, subst, arith}
+use Rattle.std.proofs.Common.{◌≡◌, ◌+◌, [], ◌∷◌, ◌++◌, Ok, Err, vec_items, sym, ap, ◌∙◌, subst, arith}
 use Rattle.std.proofs.lemmas.List.{append-nil}
 use Rattle.tables.specs.Tables.{tables_of}
 use Rattle.tables.specs.declared.Fed.TheVariants.{Accepted, End}
@@ -6,8 +6,7 @@ use Rattle.study.specs.Steps.{kept_of}
 use Rattle.report.specs.Refused.{refused_line}
 use Rattle.sheet_report.specs.Evening.{reading}
 use Rattle.sheet_report.proofs.Underway.{Underway}
-use Rattle.sheet_report.proofs.Turns.{short_same, fed-ended, fed_accepted, fed-fault, the-answer, fewer, room, turn, turn_end}
-use Rattle.sheet_report.proofs.feeding.feed_all.Given as given
+use Rattle.sheet_report.proofs.Turns.{short_same, fed-ended, fed_accepted, fed-fault, the-answer, room, turn, turn_end}
 use Rattle.sheet_report.proofs.feeding.feed_all.Goals as goal
 
 pub refused_line-requires : goal.refused_line-requires

@@ -1,10 +1,7 @@
-use Rattle.std.proofs.Common.{◌≡◌, ℕ, ◌+◌, ◌-◌, ◌^◌, ◌<◌, false, ◌++◌, length, vec_items}
-use Rattle.caches.specs.Caches.{History}
-use Rattle.tables.specs.Tables.{Tables, tables_of}
+use Rattle.std.proofs.Common.{◌≡◌, ◌+◌, ◌-◌, ◌^◌, ◌<◌, false, length, vec_items}
+use Rattle.tables.specs.Tables.{tables_of}
 use Rattle.tables.specs.Calls.{short}
 use Rattle.study.specs.Steps.{kept_of}
-use Rattle.sheet_report.specs.Evening.{reading}
-use Rattle.sheet_report.specs.Steps.{Reached}
 use Rattle.sheet_report.proofs.Turns.{On-the-way}
 use Rattle.sheet_report.proofs.feeding.feed_all.Given as goal
 

@@ -1,4 +1,4 @@
-use Rattle.std.proofs.Common.{◌≡◌, ◌-◌, ◌<◌, ◌≤◌, min, ◌++◌, vec_items, refl, ap, ◌∙◌, arith}
+use Rattle.std.proofs.Common.{◌≡◌, ◌<◌, ◌++◌, vec_items, ap, ◌∙◌, arith}
 use Rattle.setmap.specs.Mapping.{offered}
 use Rattle.sheet_report.specs.Evening.{level_rows}
 use Rattle.sheet_report.proofs.Lines.{levels_more}

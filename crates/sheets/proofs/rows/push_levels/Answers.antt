@@ -1,4 +1,4 @@
-use Rattle.std.proofs.Common.{◌≡◌, ◌<◌, ◌++◌, vec_items, refl, ap, ◌∙◌, arith}
+use Rattle.std.proofs.Common.{◌≡◌, ◌<◌, ◌++◌, vec_items, ap, ◌∙◌, arith}
 use Rattle.setmap.specs.Mapping.{offered}
 use Rattle.sheets.specs.Sheets.{level_rows}
 use Rattle.sheets.proofs.Lines.{levels_more}

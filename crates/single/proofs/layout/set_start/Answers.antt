@@ -1,8 +1,7 @@
-use Rattle.std.proofs.Common.{◌≡◌, ℕ, ◌+◌, ◌-◌, ◌*◌, ◌^◌, ◌<◌, ◌≤◌, ap₂, arith}
+use Rattle.std.proofs.Common.{◌≡◌, ℕ, ◌+◌, ◌-◌, ◌*◌, ◌^◌, ◌≤◌, ap₂, arith}
 use Rattle.std.proofs.lemmas.Nat.{mul-le}
-use Rattle.single.specs.Calls.{level_in, frames_needed, set_start, set_of}
+use Rattle.single.specs.Calls.{level_in, set_start, set_of}
 use Rattle.single.proofs.Apart.{set_in}
-use Rattle.single.proofs.layout.set_start.Given as given
 use Rattle.single.proofs.layout.set_start.Goals as goal
 
 few : (p n k w : ℕ) → p ≤ 64 → n ≤ 68719476736 → k ≤ 4294967296 → w ≤ 16 → (p - 1) * n + k * w ≤ 2 ^ 43

@@ -1,6 +1,5 @@
 use Rattle.std.proofs.Common.{◌≡◌}
 use Rattle.single.specs.Calls.{tables_of, others_write_all}
-use Rattle.single.specs.Limits.{Long}
 use Rattle.single.proofs.referring.write_all.Given as goal
 
 abbrev pub invariant-loop-n : goal.invariant-loop-n

@@ -1,4 +1,4 @@
-use Rattle.std.proofs.Common.{◌≡◌, ◌+◌, ◌≤◌, length, vec_items, sym, refl, ap, ◌∙◌, subst, arith}
+use Rattle.std.proofs.Common.{◌≡◌, ◌+◌, ◌≤◌, length, vec_items, sym, ap, ◌∙◌, subst, arith}
 use Rattle.trace.specs.Text.{text_items}
 use Rattle.text.proofs.Items.{few_items}
 use Rattle.single.specs.Calls.{tables_of}

@@ -1,4 +1,4 @@
-use Rattle.std.proofs.Common.{◌≡◌, ◌+◌, length, drop, Ok, Err, sym, ap, ◌∙◌, subst, arith}
+use Rattle.std.proofs.Common.{◌+◌, length, drop, Ok, Err, sym, ap, ◌∙◌, subst, arith}
 use Rattle.trace.specs.Next.{Given}
 use Rattle.trace.specs.declared.Layer.TheVariants.{Study}
 use Rattle.trace.proofs.Nexts.{took}

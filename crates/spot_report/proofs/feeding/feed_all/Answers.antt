@@ -1,10 +1,9 @@
-use Rattle.std.proofs.Common.{◌≡◌, ◌+◌, ◌<◌, [], ◌∷◌, ◌++◌, length, drop, Ok, vec_items, sym, ap, ◌∙◌, subst, arith}
+use Rattle.std.proofs.Common.{◌≡◌, ◌+◌, [], ◌∷◌, ◌++◌, length, drop, Ok, vec_items, sym, ap, ◌∙◌, subst, arith}
 use Rattle.single.specs.Calls.{tables_of}
 use Rattle.report.specs.Refused.{refused_line}
 use Rattle.spot_report.specs.Spot.{reading}
 use Rattle.spot_report.proofs.Underway.{short_same, Underway}
 use Rattle.spot_report.proofs.Turns.{some_accepted, some_fault, room, turn_accepted, turn_fault, turn_end}
-use Rattle.spot_report.proofs.feeding.feed_all.Given as given
 use Rattle.spot_report.proofs.feeding.feed_all.Goals as goal
 
 pub returns-in-End : goal.returns-in-End

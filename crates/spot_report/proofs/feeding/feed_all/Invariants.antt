@@ -1,4 +1,4 @@
-use Rattle.std.proofs.Common.{◌≡◌, ℕ, ◌+◌, ◌-◌, ◌^◌, ◌<◌, false, ◌++◌, length, vec_items}
+use Rattle.std.proofs.Common.{◌≡◌, ◌+◌, ◌-◌, ◌^◌, ◌<◌, false, ◌++◌, length, vec_items}
 use Rattle.caches.specs.Caches.{History}
 use Rattle.single.specs.Calls.{Tables, tables_of, short}
 use Rattle.spot_report.specs.Spot.{reading}

@@ -1,4 +1,4 @@
-use Rattle.std.proofs.Common.{◌≡◌, ◌-◌, ◌≤◌, length, take, sym, ap, ◌∙◌, subst, arith, length-take}
+use Rattle.std.proofs.Common.{length, sym, ap, ◌∙◌, subst, arith, length-take}
 use Rattle.order.specs.Order.{Distinct}
 use Rattle.tables.specs.Calls.{place_of}
 use Rattle.study.proofs.Looked.{first_is}

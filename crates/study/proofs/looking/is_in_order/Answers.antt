@@ -1,4 +1,4 @@
-use Rattle.std.proofs.Common.{◌≡◌, take, sym, ap, ◌∙◌}
+use Rattle.std.proofs.Common.{take, sym, ap, ◌∙◌}
 use Rattle.order.specs.Looks.{no_repeat}
 use Rattle.order.proofs.Blocks.{no_repeat_distinct}
 use Rattle.study.proofs.Looked.{first_is}

@@ -1,4 +1,4 @@
-use Rattle.std.proofs.Common.{◌≡◌, ◌+◌, ◌-◌, ◌*◌, take, drop, sum, ap, ◌∙◌, arith, rules}
+use Rattle.std.proofs.Common.{◌+◌, ◌-◌, ◌*◌, drop, sum, ap, ◌∙◌, arith, rules}
 use Rattle.std.proofs.lemmas.List.{take-take}
 use Rattle.places.proofs.Portions.{rows}
 use Rattle.study.proofs.Asked.{few_sum}

@@ -1,10 +1,8 @@
-use Rattle.std.proofs.Common.{◌≡◌, false, map, length, vec_items, sym, refl, ap, ◌∙◌, subst}
+use Rattle.std.proofs.Common.{◌≡◌, false, map, length, vec_items, sym, refl, ap, ◌∙◌}
 use Rattle.std.proofs.lemmas.Result.{IfOk-weaker}
 use Rattle.tables.specs.Tables.{tables_of}
 use Rattle.tables.specs.Calls.{short}
-use Rattle.study.specs.Steps.{kept_of}
 use Rattle.sheets.specs.Sheets.{fault_line}
-use Rattle.sheets.specs.Steps.{lists_of}
 use Rattle.study.proofs.Lengths.{short_same}
 use Rattle.sheets.proofs.Steps.{lists_lent, lists_back, all_answered, fed_reached, fed_lines}
 use Rattle.sheets.proofs.owning.SheetStudy.feed_all.Goals as goal

@@ -1,5 +1,5 @@
-use Rattle.std.proofs.Common.{◌≡◌, ◌*◌, ◌≤◌, false, [], length, None, vec_items, vec_len, sym, refl, ap, ◌∙◌, subst, arith}
-use Rattle.tables.specs.Tables.{Tables, tables_of}
+use Rattle.std.proofs.Common.{◌≡◌, ◌*◌, ◌≤◌, false, length, None, vec_items, sym, refl, ap, ◌∙◌, subst, arith}
+use Rattle.tables.specs.Tables.{tables_of}
 use Rattle.tables.specs.Calls.{short, set_up_refusal}
 use Rattle.study.specs.Steps.{kept_of}
 use Rattle.sheets.specs.Settings.{settings_of}

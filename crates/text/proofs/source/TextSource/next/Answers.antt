@@ -1,4 +1,4 @@
-use Rattle.std.proofs.Common.{sym, arith}
+use Rattle.std.proofs.Common.{sym}
 use Rattle.std.proofs.lemmas.Bool.{eqb-true}
 use Rattle.text.proofs.Items.{at_end}
 use Rattle.text.proofs.source.TextSource.next.Goals as goal
