@@ -1,6 +1,6 @@
 -- Every list of calls keeps the tables standing for the accepted references, so each answer is the separate cache's.
 use Rattle.std.proofs.Common.{◌≡◌, ℕ, ◌+◌, ◌-◌, ◌^◌, ◌<◌, ◌≤◌, Bool, true, false, cond, eqb, ltb, leb, List, [], ◌∷◌, length, get_or, Some, None, Option, sym, refl, ap, ◌∙◌, subst, arith}
-use Rattle.std.specs.List.{AllByRecursion as All}
+use Rattle.std.specs.List.{AllByRecursion}
 use Rattle.std.proofs.lemmas.Bool.{ltb-false, leb-false, eqb-false, or_parts}
 use Rattle.setmap.specs.Mapping.{Mapping, Lawful}
 use Rattle.trace.specs.Refusals.{outside, unless_refused}
@@ -19,7 +19,7 @@ use Rattle.single.proofs.Stands.{Stands, applied_stands, stands_front, stands_be
 pub record Good (m : Mapping) (s : Settings) (w : World) : Type 0 where
   pub level : level_in m s ≡ s.level
   pub stands : Stands m s w.history w.accepted w.tables
-  pub as_cache : All (AsCache m s) w.said
+  pub as_cache : AllByRecursion (AsCache m s) w.said
 
 -- ---- what no refusal says
 

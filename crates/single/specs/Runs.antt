@@ -1,6 +1,6 @@
 -- Lists of calls on a single cache: where they lead, what they answer, and what the answers keep to.
 use Rattle.std.specs.Prelude.{◌≡◌, ℕ, List, [], ◌∷◌, ◌++◌, take, drop, Some, None, Ok, Err, Option, Result}
-use Rattle.std.specs.List.{AllByRecursion as All}
+use Rattle.std.specs.List.{AllByRecursion}
 use Rattle.setmap.specs.Mapping.{Mapping}
 use Rattle.trace.specs.Items.{block_of}
 use Rattle.trace.specs.declared.Reference.{Reference}
@@ -80,4 +80,4 @@ AsCache m s (of_question h p (Err x)) = Unit {0}
 
 -- what every list of calls keeps to
 abbrev pub AsSeparate : Mapping → Settings → Type 0
-AsSeparate m s = (t : Tables) (calls : List Call) (w : World) → run m s t calls ≡ Some w → All (AsCache m s) w.said
+AsSeparate m s = (t : Tables) (calls : List Call) (w : World) → run m s t calls ≡ Some w → AllByRecursion (AsCache m s) w.said

@@ -1,6 +1,6 @@
 -- The invariant holds wherever a list of calls leads.
 use Rattle.std.proofs.Common.{◌≡◌, ℕ, ◌+◌, ◌-◌, ◌*◌, ◌^◌, ◌≤◌, Bool, true, false, cond, ◌&&◌, ◌||◌, eqb, ltb, List, [], ◌∷◌, ◌++◌, length, take, Some, None, Err, Option, sym, refl, ap, ◌∙◌, subst, inl, inr, mul-le-mul_left, arith}
-use Rattle.std.specs.List.{AllByRecursion as All}
+use Rattle.std.specs.List.{AllByRecursion}
 use Rattle.std.proofs.lemmas.List.{length_push}
 use Rattle.std.proofs.lemmas.Bool.{cases_eq, cases_Bool, eq-eqb, or_parts, ltb-true, ltb-false, cond-true}
 use Rattle.setmap.specs.Mapping.{Mapping, Lawful}
@@ -39,8 +39,8 @@ pub record Fit (m : Mapping) (s : Settings) : Type 0 where
 pub record Good (m : Mapping) (s : Settings) (w : World) : Type 0 where
   pub fit : Fit m s
   pub stands : Stands m s w.history w.kept w.tables
-  pub as_caches : All (AsCaches m) w.said
-  pub has_room : s.levels * s.blocks ≤ s.entries → All HasRoom w.said
+  pub as_caches : AllByRecursion (AsCaches m) w.said
+  pub has_room : s.levels * s.blocks ≤ s.entries → AllByRecursion HasRoom w.said
 
 -- ---- the set-up
 

@@ -1,6 +1,6 @@
 -- The theorem of the bench: whatever is called, a study tells what the separate caches would.
 use Rattle.std.specs.Prelude.{◌≡◌, ℕ, ◌*◌, ◌≤◌, false, List, Some, Ok, Err, ◌≢◌}
-use Rattle.std.specs.List.{AllByRecursion as All}
+use Rattle.std.specs.List.{AllByRecursion}
 use Rattle.setmap.specs.Mapping.{Mapping, Lawful}
 use Rattle.trace.specs.declared.Layer.TheVariants.{Study}
 use Rattle.trace.specs.declared.Refusal.TheVariants.{Entries}
@@ -43,10 +43,10 @@ ViewsDecide m s =
 -- what holds of every list of calls on a study of this map and these settings
 pub record Faithful (m : Mapping) (s : Settings) : Type 0 where
   -- every answer is that of the separate caches
-  pub as_caches : (t : Tables) (calls : List Call) (w : World) → run m s t calls ≡ Some w → All (AsCaches m) w.said
+  pub as_caches : (t : Tables) (calls : List Call) (w : World) → run m s t calls ≡ Some w → AllByRecursion (AsCaches m) w.said
   -- larger caches hold what smaller ones hold
   pub includes : (t : Tables) (calls : List Call) (w : World) → run m s t calls ≡ Some w → Includes m w.history
   -- the views of the sets decide the counts
   pub views_decide : ViewsDecide m s
   -- entries for each level and block are enough
-  pub has_room : s.levels * s.blocks ≤ s.entries → (t : Tables) (calls : List Call) (w : World) → run m s t calls ≡ Some w → All HasRoom w.said
+  pub has_room : s.levels * s.blocks ≤ s.entries → (t : Tables) (calls : List Call) (w : World) → run m s t calls ≡ Some w → AllByRecursion HasRoom w.said
