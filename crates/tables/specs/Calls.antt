@@ -1,5 +1,5 @@
 -- What each call of a study answers and leaves, for all contents of the tables that it is passed.
-use Rattle.std.specs.Prelude.{ℕ, zero, suc, ◌+◌, ◌-◌, ◌*◌, ◌^◌, Bool, false, cond, ◌&&◌, ◌||◌, List, [], ◌∷◌, length, get_or, take, Some, None, Ok, Err, sum, Option, Result, ◌==◌, nat_le, nat_lt, slice_index, slice_index_or, slice_set}
+use Rattle.std.specs.Prelude.{ℕ, zero, suc, ◌+◌, ◌-◌, ◌*◌, ◌^◌, Bool, false, cond, ◌&&◌, ◌||◌, List, [], ◌∷◌, length, take, Some, None, Ok, Err, sum, Option, Result, ◌==◌, nat_le, nat_lt, slice_index, slice_index_or, slice_set}
 use Rattle.places.specs.Parts.{part, put, start, more}
 use Rattle.places.specs.Place.{place}
 use Rattle.setmap.specs.Mapping.{Mapping}
@@ -135,7 +135,7 @@ past_counter s p Lost cs = more (lost_at s p) cs
 abbrev pub own_reference : Mapping → Settings → ℕ → Block → ℕ → Tables → Tables
 own_reference m s p q k t =
     let es = stretch s p t in
-    let mark = get_or t.marks (mark_at s p k) Never in
+    let mark = slice_index_or t.marks (mark_at s p k) Never in
     record {
       entries = put (start s.entries p) s.entries (restack (touched m q (stack es)) es) t.entries;
       known = slice_set t.known k q;

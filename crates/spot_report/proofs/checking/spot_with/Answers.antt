@@ -33,7 +33,7 @@ returns g c =
     let t' = tables_of last.frames last.counters in
     let line : c.new-source.result.count + 2 ≡ 2 = omega (arith, c.new-source.ensures.count) in
     let kept_map = c.feed_all.ensures.map ∙ o.1 in
-    let kept-settings = c.feed_all.ensures.settings ∙ o.2 in
+    let kept_settings = c.feed_all.ensures.settings ∙ o.2 in
     put_whole m a.s t c.requires.accepted items last.cache.accepted t' (vec_items last.refused)
     (through_after m (g.M.SetMap.meaning c.in-Ok.cache.map) a.s c.in-Ok.cache.settings (ap g.M.SetMap.meaning o.1) o.2
     items _ _ _ _ _ _ _ _ _ (ap text_items c.new-source.ensures.rest) line o.3 c.in-Ok.ensures.tables c.new-refused.ensures.items c.in_ok-feed_all-in-Ok.ensures.through)
@@ -42,6 +42,6 @@ returns g c =
     (let m₁ = g.M.SetMap.meaning last.cache.map in
     let s₁ = last.cache.settings in
     let em : m₁ ≡ m = ap g.M.SetMap.meaning kept_map in
-    let separate : AsSeparate m₁ s₁ = subst (λ x. AsSeparate x s₁) (sym em) (subst (AsSeparate m) (sym kept-settings) c.in-Ok.ensures.faithful) in
-    let reached₁ : Reached m₁ s₁ t₀ h last.cache.accepted t' = subst (λ x. Reached x s₁ t₀ h last.cache.accepted t') (sym em) (subst (λ x. Reached m x t₀ h last.cache.accepted t') (sym kept-settings) reached) in
-    c.in_ok-rows-in-Ok.ensures t₀ h separate reached₁ ∙ ap (λ x. rows x s₁ h a.s.processors) em ∙ ap (λ x. rows m x h a.s.processors) kept-settings))
+    let separate : AsSeparate m₁ s₁ = subst (λ x. AsSeparate x s₁) (sym em) (subst (AsSeparate m) (sym kept_settings) c.in-Ok.ensures.faithful) in
+    let reached₁ : Reached m₁ s₁ t₀ h last.cache.accepted t' = subst (λ x. Reached x s₁ t₀ h last.cache.accepted t') (sym em) (subst (λ x. Reached m x t₀ h last.cache.accepted t') (sym kept_settings) reached) in
+    c.in_ok-rows-in-Ok.ensures t₀ h separate reached₁ ∙ ap (λ x. rows x s₁ h a.s.processors) em ∙ ap (λ x. rows m x h a.s.processors) kept_settings))

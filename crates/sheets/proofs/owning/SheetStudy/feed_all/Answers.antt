@@ -39,16 +39,16 @@ returns-in-Ok g c =
     let lent = lists_lent t c.as_mut_slice.result.now c.as_mut_slice-2.result.now c.as_mut_slice-3.result.now c.as_mut_slice-4.result.now
     c.as_mut_slice.ensures.value c.as_mut_slice-2.ensures.value c.as_mut_slice-3.ensures.value c.as_mut_slice-4.ensures.value in
     let same_map = ap mean (sym self.same_map) in
-    let same-settings = sym self.same_settings in
+    let same_settings = sym self.same_settings in
     let through = c.in-Ok.ensures.through in
     record {
       through = IfOk-weaker c.refused_lines.result _ _
           (λ v same h accepted. (
-            (accepted.0, fed_reached m (mean self.study.map) same_map s self.study.settings same-settings _ _ _ lent _ _ _ back items _ n _ _ _ c.new.ensures.items through law self.wide h accepted.0 accepted.1),
-            same ∙ ap (map fault_line) c.as_slice.ensures.value ∙ fed_lines m (mean self.study.map) same_map s self.study.settings same-settings _ _ _ lent _ _ _ back items _ n _ _ _ c.new.ensures.items through law self.wide h accepted.0 accepted.1,
+            (accepted.0, fed_reached m (mean self.study.map) same_map s self.study.settings same_settings _ _ _ lent _ _ _ back items _ n _ _ _ c.new.ensures.items through law self.wide h accepted.0 accepted.1),
+            same ∙ ap (map fault_line) c.as_slice.ensures.value ∙ fed_lines m (mean self.study.map) same_map s self.study.settings same_settings _ _ _ lent _ _ _ back items _ n _ _ _ c.new.ensures.items through law self.wide h accepted.0 accepted.1,
           ))
           c.refused_lines.ensures;
       map = refl;
       settings = refl;
-      answered = IfOk-weaker c.refused_lines.result _ _ (λ v same. all_answered m (mean self.study.map) same_map s self.study.settings same-settings _ _ _ lent _ _ _ back items _ n _ _ _ c.new.ensures.items through) c.refused_lines.ensures;
+      answered = IfOk-weaker c.refused_lines.result _ _ (λ v same. all_answered m (mean self.study.map) same_map s self.study.settings same_settings _ _ _ lent _ _ _ back items _ n _ _ _ c.new.ensures.items through) c.refused_lines.ensures;
     }

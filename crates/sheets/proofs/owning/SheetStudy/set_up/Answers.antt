@@ -30,7 +30,7 @@ returns-in-Ok g c =
     let m = g.M.SetMap.meaning c.args.map in
     let o = c.in-Ok.ensures.answer in
     let s = c.in-Some.settings in
-    let same-settings = c.in-Some.ensures in
+    let same_settings = c.in-Some.ensures in
     let es = c.as_mut_slice.result.now in
     let ks = c.as_slice.result.now in
     let ms = c.as_mut_slice-2.result.now in
@@ -42,5 +42,5 @@ returns-in-Ok g c =
     ∙ ap (λ x. tables_of last.entries x last.marks last.counters) (sym c.as_slice.ensures.value) in
     let none : kept_of c.in-Ok.study.known c.in-Ok.study.accepted ≡ kept_of 0 0 = ap (λ x. kept_of x c.in-Ok.study.accepted) o.3 ∙ ap (kept_of 0) o.4 in
     let accepted : set_up_refusal m (settings_of c.args.sizes) (lists_of c.args.tables) ≡ None =
-    sym (ap (λ x. set_up_refusal m x (tables_of es ks ms cs)) same-settings ∙ ap (set_up_refusal m (settings_of c.args.sizes)) lent) ∙ o.0 in
-    (accepted, refl, same-settings, (tables_of es ks ms cs, begun m s (tables_of es ks ms cs) _ _ o.0 none (back ∙ c.in-Ok.ensures.tables)))
+    sym (ap (λ x. set_up_refusal m x (tables_of es ks ms cs)) same_settings ∙ ap (set_up_refusal m (settings_of c.args.sizes)) lent) ∙ o.0 in
+    (accepted, refl, same_settings, (tables_of es ks ms cs, begun m s (tables_of es ks ms cs) _ _ o.0 none (back ∙ c.in-Ok.ensures.tables)))
