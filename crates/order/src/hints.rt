@@ -1,4 +1,4 @@
-ghost use Rattle.std.specs.Prelude.{◌≡◌, ◌<◌, ◌≤◌, true, length, slice_index_or};
+ghost use Rattle.std.specs.Prelude.{◌≡◌, ◌<◌, ◌≤◌, true, length, slice_index, slice_index_or, slice_set, EachIndex, SomeIndex};
 ghost use Rattle.order.specs.Order.{Distinct};
 ghost use Rattle.tables.specs.Calls.{place_of};
 
@@ -36,8 +36,10 @@ fn stands_at(known: &[Block], place: usize, q: Block) -> bool
 }
 
 impl Hints {
-    // Whether there are hints or not, what is found is the same: so nothing is promised of these.
-    pub fn none() -> Hints {
+    // No slot has a hint.
+    pub fn none() -> Hints
+        ensures { EachIndex result.places (λ k. slice_index result.places k ≡ NONE) }
+    {
         Hints {
             places: [NONE; SLOTS],
         }
@@ -88,8 +90,12 @@ impl Hints {
         known.len()
     }
 
-    // Notes a place for q. It promises nothing: a hint is a guess, and whatever it says, what is found by it is right.
-    pub fn note(&mut self, q: Block, place: usize) {
+    // Notes a place for q in one slot; a place that no slot can hold is let go. Which slot is not said: a hint is a guess,
+    // and whatever it says, what is found by it is right.
+    pub fn note(&mut self, q: Block, place: usize)
+        ensures noted { place < NONE → SomeIndex self.old.places (λ k. self.new.places ≡ slice_set self.old.places k place) }
+        ensures too_large { NONE ≤ place → self.new ≡ self.old }
+    {
         if place < NONE as usize {
             let slot = self.free_slot(slot_of(q));
             self.places[slot] = place as u16;
