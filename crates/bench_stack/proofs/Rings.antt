@@ -1,5 +1,6 @@
 -- The steps of a ring's references.
-use Rattle.std.proofs.Common.{◌≡◌, ℕ, ◌+◌, ◌%◌, ◌^◌, ◌<◌, Bool, true, false, cond, List, get_or, Some, None, Option, sym, refl, ap, ◌∙◌, add-one}
+use Rattle.std.proofs.Common.{◌≡◌, ℕ, ◌+◌, ◌%◌, ◌^◌, ◌<◌, List, Some, None, Option, ap, add-one}
+use Rattle.stack.proofs.Stops.{position_is}
 use Rattle.setmap.specs.Maps.{bit_choice}
 use Rattle.trace.specs.declared.Block.{Block}
 use Rattle.stack.specs.declared.Entry.{Entry}
@@ -15,10 +16,6 @@ pub total_more : (blocks n : ℕ) → total blocks (n + 1) ≡ (total blocks n +
 unfolding total
 total_more blocks n = ap (total blocks) (add-one n)
 
-or_none-cond : (t : Bool) (n : ℕ) → or_none (cond t (Some n) None) ≡ cond t n 0
-or_none-cond true n = refl
-or_none-cond false n = refl
-
 pub read_is : (q : Block) (i : ℕ) (es : List Entry) (r : Option Walk) → i < 17 → Answered bit_choice q es r → read_at i r ≡ told q i es
 read_is q i es None l a = rw a
-read_is q i es (Some w) l a = rw a.0 (sym (or_none-cond w.found (get_or w.positions i 0)) ∙ sym (ap or_none (a.1.positioned i l)))
+read_is q i es (Some w) l a = rw a.0 (ap or_none (position_is bit_choice q es w i a.1 l))

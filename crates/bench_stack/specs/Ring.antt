@@ -1,11 +1,12 @@
 -- References to the blocks of a ring, one after the other.
-use Rattle.std.specs.Prelude.{ℕ, zero, suc, ◌+◌, ◌%◌, ◌^◌, cond, List, replicate, Some, None, Option, slice_index}
+use Rattle.std.specs.Prelude.{ℕ, zero, suc, ◌+◌, ◌%◌, ◌^◌, cond, List, replicate, Some, None, Option}
 use Rattle.setmap.specs.Maps.{bit_choice}
 use Rattle.trace.specs.declared.Block.{Block}
 use Rattle.stack.specs.declared.Entry.{Entry}
 use Rattle.stack.specs.declared.Entry.TheVariants.{Empty}
 use Rattle.stack.specs.declared.walk.Walk.{Walk}
 use Rattle.stack.specs.Stack.{stack, position}
+use Rattle.stack.specs.Walk.{position_at}
 use Rattle.stack.specs.Touch.{has_room, after}
 
 -- the block of the n-th reference, in a ring of so many blocks
@@ -33,4 +34,4 @@ total blocks (suc n) = (total blocks n + told (nth_block blocks n) (n % 17) (str
 -- what is read of an answer
 abbrev pub read_at : (level : ℕ) → Option Walk → ℕ
 read_at i None = 0
-read_at i (Some w) = cond w.found (slice_index w.positions i) 0
+read_at i (Some w) = or_none (position_at i w)

@@ -1,6 +1,6 @@
 #![tactic(auto)]
 
-ghost use Rattle.std.specs.Prelude.{◌≡◌, ◌%◌, ◌<◌, max};
+ghost use Rattle.std.specs.Prelude.{◌≡◌, max};
 ghost use Rattle.bench_stack.specs.Ring.{total, read_at};
 
 use setmap::bit_choice::BitChoice;
@@ -11,19 +11,11 @@ use trace::Block;
 
 // A reference's position at a level, or 0 where it found none.
 fn read_at(answer: Option<Walk>, level: usize) -> u64
-    requires { level < 17 }
     ensures { result ≡ read_at level answer }
 {
-    match answer {
-        Some(walk) => {
-            if walk.found {
-                walk.positions[level] as u64
-            } else {
-                0
-            }
-        }
-        None => 0,
-    }
+    answer
+        .and_then(|walk| walk.position(level))
+        .map_or(0, |n| n as u64)
 }
 
 // Refers to the blocks of a ring, one after the other: once each block was met, every reference walks down the whole ring.

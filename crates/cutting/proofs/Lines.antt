@@ -1,11 +1,12 @@
 -- Text: whole lines, and the last line feed.
-use Rattle.std.proofs.Common.{◌≡◌, ℕ, suc, ◌+◌, ◌-◌, ◌<◌, ◌≤◌, Bool, true, false, cond, ◌||◌, eqb, ltb, ◌⊎◌, List, [], ◌∷◌, ◌++◌, map, length, get_or, take, drop, sym, refl, ap, ◌∙◌, inl, inr, arith}
-use Rattle.std.proofs.lemmas.List.{append-nil, append_assoc, length-append, length-take-le, take_more}
+use Rattle.std.proofs.Common.{◌≡◌, ◌≢◌, ℕ, zero, suc, ◌+◌, ◌<◌, ◌≤◌, Bool, true, false, cond, ◌||◌, eqb, ltb, ◌⊎◌, List, [], ◌∷◌, ◌++◌, map, length, get_or, take, drop, sym, refl, ap, ◌∙◌, inl, inr, arith}
+use Rattle.std.proofs.lemmas.List.{append-nil, append_assoc, length-append, length-take-le}
 use Rattle.std.proofs.lemmas.Bool.{eqb-true, ltb-true, ltb-false, lt-ltb, eq-eqb, ne_eqb, or_cases, or_parts, or_left, or_right, or_from, cond-true, cond-false}
+use Rattle.std.specs.List.{onto_first}
 use Rattle.text.proofs.Counting.{some_piece}
 use Rattle.text.proofs.Items.{one_more}
 use Rattle.trace.specs.Items.{Item}
-use Rattle.trace.specs.Text.{onto_first, pieces, line_of, item, line_items, text_items}
+use Rattle.trace.specs.Text.{pieces, line_of, item, line_items, text_items}
 use Rattle.cutting.specs.Cutting.{whole_lines, WholeItems, LeftOver}
 use Rattle.cutting.specs.declared.Form.TheVariants.{Text}
 
@@ -48,32 +49,23 @@ pub ended_whole : (front : List ℕ) → Ended front → WholeItems Text front
 ended_whole front (inl e) = rw e (λ later. refl)
 ended_whole front (inr (xs, e)) = rw e (feed_whole xs)
 
--- the last byte, one more at the end
-feed_last : (xs : List ℕ) (b : ℕ) → b ≡ 10 → whole_lines (xs ++ (b ∷ [])) ≡ suc (length xs)
-feed_last [] b e = cond-true _ _ _ (or_left _ _ (eq-eqb b 10 e))
-feed_last (a ∷ xs) b e =
-    let ih = feed_last xs b e in
-    cond-true _ _ _ (or_right (eqb a 10) _ (lt-ltb 0 (whole_lines (xs ++ (b ∷ []))) (omega arith))) ∙ ap suc ih
+-- no line feed in it
+pub no_lines : (bs : List ℕ) → ((k : ℕ) → k < length bs → get_or bs k 0 ≢ 10) → whole_lines bs ≡ 0
+no_lines [] none = refl
+no_lines (b ∷ bs) none =
+    let ih = no_lines bs (λ k h. none (suc k) (omega arith)) in
+    cond-false _ _ _ (or_from _ _ (ne_eqb b 10 (none 0 (omega arith))) (rw ih refl))
 
-other_last : (xs : List ℕ) (b : ℕ) → (b ≡ 10 → ⊥) → whole_lines (xs ++ (b ∷ [])) ≡ whole_lines xs
-other_last [] b e = cond-false _ _ _ (or_from _ _ (ne_eqb b 10 e) refl)
-other_last (a ∷ xs) b e = ap (λ (w : ℕ). cond (eqb a 10 || ltb 0 w) (suc w) 0) (other_last xs b e)
-
--- a loop that goes down, and has passed no line feed at n and above
-module _ (bs : List ℕ) (n : ℕ) (some : 0 < n) (h : n ≤ length bs) (passed : whole_lines (take n bs) ≡ whole_lines bs) where
-  last_byte : whole_lines (take n bs) ≡ whole_lines (take (n - 1) bs ++ (get_or bs (n - 1) 0 ∷ []))
-  last_byte =
-      let e : n ≡ (n - 1) + 1 = omega arith in
-      ap (λ (m : ℕ). whole_lines (take m bs)) e ∙ ap whole_lines (take_more bs (n - 1) 0 (omega arith))
-
-  pub passed_here : get_or bs (n - 1) 0 ≡ 10 → whole_lines bs ≡ (n - 1) + 1
-  passed_here e =
-      let f = feed_last (take (n - 1) bs) (get_or bs (n - 1) 0) e in
-      let l = length-take-le (n - 1) bs (omega arith) in
-      omega (arith, last_byte)
-
-  pub passed_more : (get_or bs (n - 1) 0 ≡ 10 → ⊥) → whole_lines (take (n - 1) bs) ≡ whole_lines bs
-  passed_more e = sym (other_last (take (n - 1) bs) (get_or bs (n - 1) 0) e) ∙ sym last_byte ∙ passed
+-- its last line feed at i
+pub lines_to : (bs : List ℕ) (i : ℕ) → i < length bs → get_or bs i 0 ≡ 10 → ((k : ℕ) → i + 1 ≤ k → k < length bs → get_or bs k 0 ≢ 10) → whole_lines bs ≡ i + 1
+lines_to [] i h feed none = absurd (omega arith)
+lines_to (b ∷ bs) zero h feed none =
+    let rest = no_lines bs (λ k h. none (suc k) (omega arith) (omega arith)) in
+    cond-true _ _ _ (or_left _ _ (eq-eqb b 10 feed)) ∙ ap suc rest
+lines_to (b ∷ bs) (suc i) h feed none =
+    let rest = lines_to bs i (omega arith) feed (λ k l h. none (suc k) (omega arith) (omega arith)) in
+    let more : whole_lines (b ∷ bs) ≡ suc (whole_lines bs) = cond-true _ _ _ (or_right (eqb b 10) _ (lt-ltb 0 (whole_lines bs) (omega arith))) in
+    more ∙ (let e : suc (whole_lines bs) ≡ suc i + 1 = omega arith in e)
 
 pub lines_within : (bs : List ℕ) → whole_lines bs ≤ length bs
 lines_within [] = omega arith

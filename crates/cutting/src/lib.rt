@@ -1,37 +1,25 @@
 // Where a trace that is read in pieces may be cut.
 #![tactic(auto)]
 
-ghost use Rattle.std.specs.Prelude.{◌≡◌, ◌+◌, ◌-◌, ◌%◌, ◌<◌, ◌≤◌, length, take, drop, Some, None};
+ghost use Rattle.std.specs.Prelude.{◌≡◌, ◌-◌, ◌%◌, ◌≤◌, length, take, drop};
 ghost use Rattle.cutting.specs.Cutting.{whole_lines, whole, WholeItems, Cut, LeftOver};
 
 // The two forms of a trace: lines, or records of six bytes.
-#[derive(Clone, Copy)]
+#[derive(Clone, Copy, PartialEq, Eq)]
 pub enum Form {
     Text,
     Records,
 }
 
-// Backwards, since a piece mostly ends within a line of its last line feed.
-fn last_line_feed(bytes: &[u8]) -> Option<usize>
-    ensures { elim result [ Some place ↦ (place < length bytes.now) × (whole_lines bytes.now ≡ place + 1) | None ↦ whole_lines bytes.now ≡ 0 ] }
-{
-    for place in (0..bytes.len()).rev() {
-        if bytes[place] == b'\n' {
-            return Some(place);
-        }
-    }
-    None
-}
-
-// How many bytes are whole lines.
+// How many bytes are whole lines: up to and with the last line feed.
 fn whole_lines(bytes: &[u8]) -> usize
     ensures value { result ≡ whole_lines bytes.now }
     ensures within { result ≤ length bytes.now }
 {
-    match last_line_feed(bytes) {
-        Some(place) => place + 1,
-        None => 0,
-    }
+    bytes
+        .iter()
+        .rposition(|b| *b == b'\n')
+        .map_or(0, |place| place + 1)
 }
 
 // How many of so many bytes are whole records.

@@ -1,4 +1,4 @@
-use anyhow::anyhow;
+use anyhow::bail;
 use cutting::Form;
 use std::env;
 
@@ -21,27 +21,22 @@ pub(super) fn read_words(rt: &HostRuntime) -> anyhow::Result<Request> {
     let mut form = Form::Records;
     let mut progress = false;
     for word in env::args(rt)?.skip(1) {
-        if word.as_str() == "--text" {
-            form = Form::Text;
-        } else if word.as_str() == "--progress" {
-            progress = true;
-        } else if word.as_str().starts_with("--") {
-            return Err(anyhow!(USAGE));
-        } else if settings.is_none() {
-            settings = Some(word);
-        } else if file.is_none() {
-            file = Some(word);
-        } else {
-            return Err(anyhow!(USAGE));
+        match word.as_str() {
+            "--text" => form = Form::Text,
+            "--progress" => progress = true,
+            option if option.starts_with("--") => bail!("{USAGE}"),
+            _ if settings.is_none() => settings = Some(word),
+            _ if file.is_none() => file = Some(word),
+            _ => bail!("{USAGE}"),
         }
     }
-    match settings {
-        Some(settings) => Ok(Request {
-            settings,
-            file,
-            form,
-            progress,
-        }),
-        None => Err(anyhow!(USAGE)),
-    }
+    let Some(settings) = settings else {
+        bail!("{USAGE}");
+    };
+    Ok(Request {
+        settings,
+        file,
+        form,
+        progress,
+    })
 }

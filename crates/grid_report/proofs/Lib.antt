@@ -1,2 +1,1 @@
-mod Settings
 mod Readings

@@ -1,5 +1,5 @@
 -- A trace that is read in pieces is read as a whole.
-use Rattle.std.proofs.Common.{◌≡◌, ℕ, ◌+◌, List, [], ◌∷◌, ◌++◌, length, Some, None, Option, sym, refl, ap, ◌∙◌, subst, inl, arith, length-append}
+use Rattle.std.proofs.Common.{◌≡◌, ℕ, ◌+◌, ◌≤◌, List, [], ◌∷◌, ◌++◌, length, Some, None, Option, Ok, Err, Result, sym, refl, ap, ◌∙◌, subst, inl, arith, length-append}
 use Rattle.std.proofs.lemmas.List.{append_assoc}
 use Rattle.setmap.specs.Mapping.{Mapping}
 use Rattle.setmap.specs.declared.SetMap.{Ghosts}
@@ -19,7 +19,9 @@ use Rattle.cutting.specs.declared.Form.{Form}
 use Rattle.cutting.specs.declared.Form.TheVariants.{Text, Records}
 use Rattle.cutting.specs.Cutting.{items_of, WholeItems, LeftOver}
 use Rattle.cutting.proofs.Pieces.{whole_none, whole-++}
-use Rattle.grid_report.specs.Grids.{trace_reading}
+use Rattle.grid_report.specs.Grids.{NotRead, trace_reading}
+use Rattle.grid_report.specs.declared.errors.ReadError.{ReadError}
+use Rattle.grid_report.specs.declared.errors.ReadError.TheVariants.{TooLong, NoMemory}
 
 -- ---- items, and then more
 
@@ -108,3 +110,12 @@ fed_as m study study' items items₁ count n count' refused ei en through counte
   subst (λ is. PutThrough m study study' is (count + 1) refused) ei (subst (λ k. PutThrough m study study' items₁ (k + 1) refused) en through),
   counted ∙ ap (λ k. k + length items₁) en ∙ ap (λ is. count + length is) ei,
 )
+
+-- what is too long stays so with more
+not_read_more : (n n' : ℕ) → n ≤ n' → (y : ReadError) → NotRead n y → NotRead n' y
+not_read_more n n' h TooLong long = omega arith
+not_read_more n n' h NoMemory x = tt
+
+pub told_more : {A : Type 0} {P P' : A → Type 0} (n n' : ℕ) (r : Result A ReadError) → n ≤ n' → ((v : A) → P v → P' v) → elim r as (λ _. Type 0) [ Ok v ↦ P v | Err y ↦ NotRead n y ] → elim r as (λ _. Type 0) [ Ok v ↦ P' v | Err y ↦ NotRead n' y ]
+told_more n n' (Ok v) h more p = more v p
+told_more n n' (Err y) h more p = not_read_more n n' h y p

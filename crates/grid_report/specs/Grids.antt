@@ -13,10 +13,10 @@ use Rattle.sheets.specs.Studies.{HasAccepted}
 use Rattle.cutting.specs.declared.Form.{Form}
 use Rattle.cutting.specs.Cutting.{items_of, WholeItems, LeftOver}
 use Rattle.grid_report.specs.declared.Grid.{Grid}
-use Rattle.grid_report.specs.declared.OpenError.{OpenError}
-use Rattle.grid_report.specs.declared.OpenError.TheVariants as opening
-use Rattle.grid_report.specs.declared.ReadError.{ReadError}
-use Rattle.grid_report.specs.declared.ReadError.TheVariants as reading_on
+use Rattle.grid_report.specs.declared.errors.OpenError.{OpenError}
+use Rattle.grid_report.specs.declared.errors.OpenError.TheVariants as opening
+use Rattle.grid_report.specs.declared.errors.ReadError.{ReadError}
+use Rattle.grid_report.specs.declared.errors.ReadError.TheVariants as reading_on
 
 -- why the settings are refused: the tables are as long as they ask for
 abbrev pub grid_refusal : Mapping → Settings → Option Refusal

@@ -1,43 +1,53 @@
-ghost use Rattle.std.specs.Prelude.{◌≡◌, ◌+◌, length, Ok, Err};
+ghost use Rattle.std.specs.Prelude.{◌≡◌, ◌+◌, length, IfOk, Ok, Err};
 ghost use Rattle.cutting.specs.Cutting.{items_of};
 ghost use Rattle.grid_report.specs.Grids.{NotRead};
 ghost use Rattle.sheets.specs.Studies.{PutThrough};
 
-use super::ReadError;
+use super::{Grid, ReadError};
 use cutting::Form;
 use records::Records;
 use report::RefusedLine;
 use setmap::SetMap;
-use sheets::SheetStudy;
-use std::alloc::Global;
+use std::alloc::{AllocError, Global};
 use text::source::Text;
 use trace::Source;
 
-// Puts the next bytes of a trace to the study, and gives the refused items and the new count; `count` items came before.
-pub(super) fn feed_bytes<M: SetMap + Copy>(
-    heap: Global,
-    study: &mut SheetStudy<M>,
-    form: Form,
-    bytes: &[u8],
-    count: u64,
-) -> Result<(Vec<RefusedLine>, u64), ReadError>
-    ensures through { elim result [ Ok x ↦ PutThrough (M.meaning study.old.map) study.old study.new (items_of form bytes.now) (count + 1) x.0.items × (x.1 ≡ count + length (items_of form bytes.now)) | Err y ↦ NotRead (count + length bytes.now) y ] }
-    ensures map { study.new.map ≡ study.old.map }
-    ensures settings { study.new.settings ≡ study.old.settings }
-{
-    if bytes.len() as u64 > u64::MAX - count {
-        return Err(ReadError::TooLong);
+impl<M: SetMap + Copy> Grid<M> {
+    // Puts a source to the study, to its end, and gives its refused items.
+    fn feed_from<S: Source + Drop>(
+        &mut self,
+        heap: Global,
+        mut source: S,
+    ) -> Result<Vec<RefusedLine>, AllocError>
+        ensures through { IfOk result (λ v. PutThrough (M.meaning self.old.study.map) self.old.study self.new.study (S.items source) (S.answered source + 1) v.items × (self.new.count ≡ S.answered source + length (S.items source))) }
+        ensures map { self.new.study.map ≡ self.old.study.map }
+        ensures settings { self.new.study.settings ≡ self.old.study.settings }
+        ensures form { self.new.form ≡ self.old.form }
+        ensures held { self.new.held ≡ self.old.held }
+    {
+        let refused = self.study.feed_all(heap, &mut source)?;
+        self.count = source.count();
+        Ok(refused)
     }
-    match form {
-        Form::Text => {
-            let mut source = Text::after(bytes, count);
-            let refused = study.feed_all(heap, &mut source)?;
-            Ok((refused, source.count()))
-        }
-        Form::Records => {
-            let mut source = Records::after(bytes, count);
-            let refused = study.feed_all(heap, &mut source)?;
-            Ok((refused, source.count()))
+
+    // Puts the next bytes of the trace to the study, and gives the refused items.
+    pub(super) fn feed_bytes(
+        &mut self,
+        heap: Global,
+        bytes: &[u8],
+    ) -> Result<Vec<RefusedLine>, ReadError>
+        ensures through { elim result [ Ok v ↦ PutThrough (M.meaning self.old.study.map) self.old.study self.new.study (items_of self.old.form bytes.now) (self.old.count + 1) v.items × (self.new.count ≡ self.old.count + length (items_of self.old.form bytes.now)) | Err y ↦ NotRead (self.old.count + length bytes.now) y ] }
+        ensures map { self.new.study.map ≡ self.old.study.map }
+        ensures settings { self.new.study.settings ≡ self.old.study.settings }
+        ensures form { self.new.form ≡ self.old.form }
+        ensures held { self.new.held ≡ self.old.held }
+    {
+        self.count
+            .checked_add(bytes.len() as u64)
+            .ok_or(ReadError::TooLong)?;
+        match self.form {
+            Form::Text => Ok(self.feed_from(heap, Text::after(bytes, self.count))?),
+            Form::Records => Ok(self.feed_from(heap, Records::after(bytes, self.count))?),
         }
     }
 }

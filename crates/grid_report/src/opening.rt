@@ -11,21 +11,14 @@ use sheets::{OwnTables, SheetStudy, Sizes};
 use std::alloc::{AllocError, Global};
 use trace::Refusal;
 
-// Why no study of these sizes is set up, if so: on no tables it is refused for want of them only where nothing else is amiss.
-fn refuse_sizes<M: SetMap + Copy>(
-    heap: Global,
-    map: M,
-    sizes: Sizes,
-) -> Result<Option<Refusal>, AllocError>
-    ensures { IfOk result (λ x. x ≡ grid_refusal (M.meaning map) (settings_of sizes)) }
+// Refuses the sizes of which there is no study: on no tables it is refused for want of them only where nothing else is amiss.
+fn refuse_sizes<M: SetMap + Copy>(heap: Global, map: M, sizes: Sizes) -> Result<(), OpenError>
+    ensures { elim result [ Ok x ↦ grid_refusal (M.meaning map) (settings_of sizes) ≡ None | Err y ↦ NotOpened (M.meaning map) (settings_of sizes) y ] }
 {
     let none = OwnTables::new(heap, 0, 0, 0, 0)?;
     match SheetStudy::set_up(map, sizes, none) {
-        Ok(_) => Ok(None),
-        Err(refusal) => match refusal {
-            Refusal::ShortTable => Ok(None),
-            _ => Ok(Some(refusal)),
-        },
+        Ok(_) | Err(Refusal::ShortTable) => Ok(()),
+        Err(refusal) => Err(OpenError::from(refusal)),
     }
 }
 
@@ -52,18 +45,14 @@ impl<M: SetMap + Copy> Grid<M> {
     pub fn open(heap: Global, map: M, sizes: Sizes, form: Form) -> Result<Grid<M>, OpenError>
         ensures { elim result [ Ok x ↦ (grid_refusal (M.meaning map) (settings_of sizes) ≡ None) × (x.study.map ≡ map) × (x.study.settings ≡ settings_of sizes) × (x.form ≡ form) × HasRead (M.meaning map) x [] [] | Err y ↦ NotOpened (M.meaning map) (settings_of sizes) y ] }
     {
-        if let Some(refusal) = refuse_sizes(heap, map, sizes)? {
-            return Err(OpenError::Refused(refusal));
-        }
+        refuse_sizes(heap, map, sizes)?;
         let tables = fitting_tables(heap, sizes)?;
-        match SheetStudy::set_up(map, sizes, tables) {
-            Err(refusal) => Err(OpenError::Refused(refusal)),
-            Ok(study) => Ok(Grid {
-                study,
-                form,
-                held: Vec::new(heap),
-                count: 0,
-            }),
-        }
+        let study = SheetStudy::set_up(map, sizes, tables)?;
+        Ok(Grid {
+            study,
+            form,
+            held: Vec::new(heap),
+            count: 0,
+        })
     }
 }

@@ -3,13 +3,13 @@ ghost use Rattle.grid_report.specs.Grids.{NotRead, trace_reading, HasRead};
 ghost use Rattle.report.specs.declared.RefusedLine.{RefusedLine as RefusedItem};
 ghost use Rattle.sheets.specs.Sheets.{rows};
 
-use super::feeding::feed_bytes;
 use super::{Grid, ReadError};
 use cutting::whole_items;
 use report::RefusedLine;
 use setmap::SetMap;
 use sheets::Row;
 use std::alloc::Global;
+use std::mem;
 
 impl<M: SetMap + Copy> Grid<M> {
     // Takes the next bytes of the trace, and gives the refused ones of the items that are whole now, by their number in the trace. After an error the grid is of no more use.
@@ -22,29 +22,17 @@ impl<M: SetMap + Copy> Grid<M> {
         self.held.extend_from_slice(bytes)?;
         let whole = whole_items(self.form, self.held.as_slice());
         let rest = self.held.split_off(whole)?;
-        let (refused, count) = feed_bytes(
-            heap,
-            &mut self.study,
-            self.form,
-            self.held.as_slice(),
-            self.count,
-        )?;
-        self.held = rest;
-        self.count = count;
-        Ok(refused)
+        let items = mem::replace(&mut self.held, rest);
+        self.feed_bytes(heap, items.as_slice())
     }
 
     // The end of the trace: what is held is its last item, cut off. Gives what is refused at the end, and a row for each processor, level and number of ways.
-    pub fn finish(self, heap: Global) -> Result<(Vec<RefusedLine>, Vec<Row>), ReadError>
+    pub fn finish(mut self, heap: Global) -> Result<(Vec<RefusedLine>, Vec<Row>), ReadError>
         ensures { elim result [ Ok x ↦ ((bytes : List ℕ) (refused : List RefusedItem) → HasRead (M.meaning self.study.map) self bytes refused → (refused ++ x.0.items ≡ (trace_reading self.study.settings self.form bytes).refused) × (x.1.items ≡ rows (M.meaning self.study.map) (trace_reading self.study.settings self.form bytes).history self.study.settings.levels self.study.settings.ways self.study.settings.processors)) | Err y ↦ NotRead (self.count + vec_len self.held) y ] }
     {
-        let Grid {
-            mut study,
-            form,
-            held,
-            count,
-        } = self;
-        let (refused, _) = feed_bytes(heap, &mut study, form, held.as_slice(), count)?;
+        let held = mem::replace(&mut self.held, Vec::new(heap));
+        let refused = self.feed_bytes(heap, held.as_slice())?;
+        let Grid { study, .. } = self;
         let rows = study.finish(heap)?;
         Ok((refused, rows))
     }

@@ -1,7 +1,8 @@
 -- Which levels the sets have that the operations give.
-use Rattle.std.proofs.Common.{◌≡◌, ℕ, zero, suc, ◌+◌, ◌-◌, ◌/◌, ◌%◌, ◌^◌, ◌<◌, ◌≤◌, min, max, Bool, true, false, cond, not, ◌&&◌, ◌||◌, eqb, ltb, sym, ap, ◌∙◌, inl, inr, arith, pow_pos, pow_mono, shr-shr}
+use Rattle.std.proofs.Common.{◌≡◌, ℕ, zero, suc, ◌+◌, ◌-◌, ◌/◌, ◌%◌, ◌^◌, ◌<◌, ◌≤◌, min, max, Bool, true, false, not, ◌&&◌, ◌||◌, eqb, ltb, sym, ap, ◌∙◌, inl, inr, arith, pow_pos, pow_mono, shr-shr}
 use native.Mathlib.Nat.{div-eq_of_lt}
-use lib.Bits.{bit_and, bit_or, bit_xor, and_shr, or_shr, xor_shr, and_step, or_step, or_add_and, xor_add_and, and_le_l, and_le_r, and_zero_r, xor_zero_r, xor_lt, or_lt}
+use lib.Bits.{and_self, bit_and, bit_or, bit_xor, and_shr, or_shr, xor_shr, and_step, or_step, or_add_and, xor_add_and, and_le_l, and_le_r, and_zero_r, xor_zero_r, xor_lt, or_lt}
+use Rattle.std.proofs.lemmas.Nat.{and-not, and_assoc, and_comm}
 use lib.Pow.{ones_split, high}
 use Rattle.std.proofs.lemmas.Bool.{cases_lt, lt-ltb, le-ltb, eq-eqb, eqb-true}
 use Rattle.levels.specs.declared.Levels.{Levels}
@@ -39,6 +40,15 @@ pub has-less : (v w : Levels) (i : ℕ) → has (less v w) i ≡ (has v i && not
 unfolding has less
 has-less v w i = rw (xor_shr, and_shr, without_odd) (odd_without (v.bits / 2 ^ i) (w.bits / 2 ^ i))
 
+pub less_is : (v w : Levels) → v.bits < 2 ^ 32 → w.bits < 2 ^ 32 → ◌≡◌ {A = Levels} (record { bits = bit_and v.bits (4294967295 - w.bits) }) (less v w)
+unfolding less
+less_is v w h k =
+    let a = v.bits in
+    let b = w.bits in
+    let c : bit_and a (bit_and a b) ≡ bit_and a b = sym (and_assoc b a a) ∙ ap (λ n. bit_and n b) (and_self a) in
+    let n : bit_and a (4294967295 - b) ≡ bit_xor a (bit_and a b) = omega (arith, and-not 32 b a k h, xor_add_and a (bit_and a b), and_comm a b, and_comm a (4294967295 - b)) in
+    ap (λ k. record { bits = k }) n
+
 pub has_none : (v : Levels) (i : ℕ) → v.bits ≡ 0 → has v i ≡ false
 unfolding has
 has_none v i e = rw (e, div-eq_of_lt (pow_pos i))
@@ -70,14 +80,6 @@ has-below r i l = ones_test (min r 32) i ∙ ltb-min r i l
 pub has_past : (k : ℕ) (v : Levels) (i : ℕ) → v.bits < 2 ^ k → k ≤ i → has v i ≡ false
 unfolding has
 has_past k v i h l = let f : v.bits < 2 ^ i = omega (arith, pow_mono l) in rw (div-eq_of_lt f)
-
--- a bit as the number that it adds
-pub bit_is : (v : Levels) (i : ℕ) → v.bits / 2 ^ i % 2 ≡ cond (has v i) 1 0
-unfolding has
-bit_is v i = odd (v.bits / 2 ^ i)
-  where
-    odd : (n : ℕ) → n % 2 ≡ cond (eqb (n % 2) 1) 1 0
-    odd n = grind arith
 
 -- ---- sets of the levels below k
 

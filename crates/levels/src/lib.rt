@@ -1,14 +1,15 @@
 #![tactic(auto)]
 
-ghost use Rattle.std.specs.Prelude.{◌≡◌, ℕ, ◌-◌, ◌/◌, ◌%◌, ◌^◌, ◌<◌, false, not, ◌&&◌, ◌||◌, ◌==◌, bit_and, bit_or, bit_xor, nat_lt};
+ghost use Rattle.std.specs.Prelude.{◌≡◌, ℕ, ◌<◌, false, not, ◌&&◌, ◌||◌, nat_lt};
 ghost use Rattle.levels.specs.Levels.{has, no_level, below, both, either, less, is_none};
 
 // A set of levels: bit i stands for level i.
-#[derive(Clone, Copy)]
+#[derive(Clone, Copy, PartialEq, Eq)]
 pub struct Levels {
     pub bits: u32,
 }
 
+// Methods and no operators, whose contract is one clause with no name.
 impl Levels {
     pub fn none() -> Levels
         ensures value { result ≡ no_level }
@@ -23,7 +24,7 @@ impl Levels {
         ensures levels { (i : ℕ) → i < 32 → has result i ≡ nat_lt i n }
     {
         if n < 32 {
-            Levels { bits: ones(n) }
+            Levels { bits: (1 << n) - 1 }
         } else {
             Levels { bits: u32::MAX }
         }
@@ -33,7 +34,7 @@ impl Levels {
     pub fn has(self, level: u32) -> bool
         ensures { result ≡ has self level }
     {
-        level < 32 && bit(self.bits, level)
+        level < 32 && (self.bits >> level) % 2 == 1
     }
 
     pub fn both(self, other: Levels) -> Levels
@@ -41,7 +42,7 @@ impl Levels {
         ensures levels { (i : ℕ) → has result i ≡ (has self i && has other i) }
     {
         Levels {
-            bits: common(self.bits, other.bits),
+            bits: self.bits & other.bits,
         }
     }
 
@@ -50,7 +51,7 @@ impl Levels {
         ensures levels { (i : ℕ) → has result i ≡ (has self i || has other i) }
     {
         Levels {
-            bits: joined(self.bits, other.bits),
+            bits: self.bits | other.bits,
         }
     }
 
@@ -60,7 +61,7 @@ impl Levels {
         ensures levels { (i : ℕ) → has result i ≡ (has self i && not (has other i)) }
     {
         Levels {
-            bits: without(self.bits, other.bits),
+            bits: self.bits & !other.bits,
         }
     }
 
@@ -69,39 +70,4 @@ impl Levels {
     {
         self.bits == 0
     }
-}
-
-// The same on plain bits.
-
-fn ones(n: u32) -> u32
-    requires { n < 32 }
-    ensures { result ≡ 2 ^ n - 1 }
-{
-    (1 << n) - 1
-}
-
-fn bit(bits: u32, level: u32) -> bool
-    requires { level < 32 }
-    ensures { result ≡ (bits / 2 ^ level % 2 == 1) }
-{
-    (bits >> level) % 2 == 1
-}
-
-fn common(a: u32, b: u32) -> u32
-    ensures { result ≡ bit_and a b }
-{
-    a & b
-}
-
-fn joined(a: u32, b: u32) -> u32
-    ensures { result ≡ bit_or a b }
-{
-    a | b
-}
-
-// The bits of a that b lacks.
-fn without(a: u32, b: u32) -> u32
-    ensures { result ≡ bit_xor a (bit_and a b) }
-{
-    a ^ common(a, b)
 }

@@ -1,8 +1,12 @@
 -- Lists of blocks: what a look at a part says of the whole, and where none repeats.
-use Rattle.std.proofs.Common.{◌≡◌, ℕ, zero, suc, ◌+◌, ◌-◌, ◌<◌, ◌≤◌, Bool, true, false, cond, not, ◌&&◌, ◌||◌, List, [], ◌∷◌, ◌++◌, length, get_or, take, drop, sym, refl, ap, ◌∙◌, subst, inl, inr, arith}
-use Rattle.std.proofs.lemmas.List.{take-append-drop, at_drop_more, at_drop_all, drop-drop, length-take-le, length-drop, get_or_default, take_rest}
-use Rattle.std.proofs.lemmas.Bool.{cases_Bool, and_parts, not-true, both_ways}
-use Rattle.places.proofs.Places.{stops, goes_on, ends}
+use Rattle.std.proofs.Common.{◌≡◌, ℕ, zero, suc, ◌+◌, ◌*◌, ◌<◌, ◌≤◌, nat_lt, Bool, true, cond, not, ◌||◌, List, [], ◌∷◌, ◌++◌, fold, length, take, drop, get_or, position, sym, refl, ap, ◌∙◌, inl, inr, arith}
+use Rattle.std.specs.List.{position_or_len}
+use Rattle.std.specs.Simd.{first_chunks}
+use Rattle.std.specs.Option.{option_map, is_some, unwrap_or}
+use Rattle.std.proofs.lemmas.List.{take-append-drop, drop-drop, length-take-le, length-drop}
+use Rattle.std.proofs.Math.Nat.{suc-mul}
+use Rattle.std.proofs.lemmas.List.Sums.{prefix_len-le-length}
+use Rattle.std.proofs.lemmas.Bool.{cases_Bool}
 use Rattle.trace.specs.Items.{same}
 use Rattle.trace.specs.declared.Block.{Block}
 use Rattle.trace.proofs.Blocks.{same_equal, same_refl}
@@ -11,95 +15,76 @@ use Rattle.tables.specs.Calls.{place_of}
 use Rattle.order.specs.Order.{Distinct}
 use Rattle.order.specs.Looks.{no_repeat}
 
--- ---- a part and the whole
+-- ---- a look at all of some blocks
 
-among_append : (q : Block) (xs ys : List Block) → among q (xs ++ ys) ≡ (among q xs || among q ys)
-among_append q [] ys = refl
-among_append q (x ∷ xs) ys = let ih = among_append q xs ys in grind arith
+pub among_fold : (q : Block) (any : Bool) (xs : List Block) → fold (λ a b. a || same b q) any xs ≡ (any || among q xs)
+among_fold q any [] = grind arith
+among_fold q any (x ∷ xs) = let ih = among_fold q (any || same x q) xs in grind arith
 
-among_front : (q : Block) (n : ℕ) (xs : List Block) → among q xs ≡ (among q (take n xs) || among q (drop n xs))
-among_front q n xs = ap (among q) (sym (take-append-drop n xs)) ∙ among_append q (take n xs) (drop n xs)
+-- ---- the first place
 
-pub none_in_front : (q : Block) (n : ℕ) (xs : List Block) → among q (take n xs) ≡ false → among q xs ≡ among q (drop n xs)
-none_in_front q n xs e = let f = among_front q n xs in grind arith
+-- as the library says it, and as the specs do
+abbrev pub first : Block → List Block → ℕ
+first q xs = position_or_len (λ b. same b q) xs
 
-pub one_in_front : (q : Block) (n : ℕ) (xs : List Block) → among q (take n xs) ≡ true → among q xs ≡ true
-one_in_front q n xs e = let f = among_front q n xs in grind arith
+pub first_place : (q : Block) (xs : List Block) → first q xs ≡ place_of q xs
+first_place q [] = refl
+first_place q (x ∷ xs) = let ih = first_place q xs in grind arith
 
--- the loop over all of some blocks
-module _ (q : Block) (xs : List Block) (any : Bool) (i : ℕ) (inv : (any || among q (drop i xs)) ≡ among q xs) where
-  pub any_more : (d : Block) → i < length xs → ((any || same (get_or xs i d) q) || among q (drop (i + 1) xs)) ≡ among q xs
-  any_more d l =
-      let e : among q (drop i xs) ≡ cond (same (get_or xs i d) q) true (among q (drop (i + 1) xs)) = at_drop_more (among q) xs i d l in
-      grind arith
+among_first : (q : Block) (xs : List Block) → among q xs ≡ nat_lt (first q xs) (length xs)
+among_first q [] = refl
+among_first q (x ∷ xs) = let ih = among_first q xs in grind arith
 
-  pub any_all : length xs ≤ i → any ≡ among q xs
-  any_all l = let e : among q (drop i xs) ≡ false = at_drop_all (among q) xs i l in grind arith
+pub among_position : (q : Block) (xs : List Block) → is_some (position (λ b. same b q) xs) ≡ among q xs
+among_position q xs = let f = among_first q xs in grind arith
 
-place_append : (q : Block) (xs ys : List Block) → among q xs ≡ false → place_of q (xs ++ ys) ≡ length xs + place_of q ys
-place_append q [] ys e = omega arith
-place_append q (x ∷ xs) ys e = let ih = place_append q xs ys in grind arith
+pub place_or_length : (q : Block) (xs : List Block) → unwrap_or (position (λ b. same b q) xs) (length xs) ≡ place_of q xs
+place_or_length q xs =
+    let f = first_place q xs in
+    let w = prefix_len-le-length (λ b. not (same b q)) xs in
+    grind arith
 
-pub place_front : (q : Block) (n : ℕ) (xs : List Block) → n ≤ length xs → among q (take n xs) ≡ false → place_of q xs ≡ n + place_of q (drop n xs)
-place_front q n xs l e =
-    let k = length-take-le n xs l in
-    let p = place_append q (take n xs) (drop n xs) e in
-    let w = ap (place_of q) (take-append-drop n xs) in
-    omega arith
+first_append : (q : Block) (xs ys : List Block) → first q (xs ++ ys) ≡ cond (among q xs) (first q xs) (length xs + first q ys)
+first_append q [] ys = omega arith
+first_append q (x ∷ xs) ys = let ih = first_append q xs ys in grind arith
 
--- the loops that seek a place
-module _ (q : Block) (xs : List Block) (i : ℕ) (inv : i + place_of q (drop i xs) ≡ place_of q xs) where
-  pub chunk_passed : (n : ℕ) → n ≡ 16 → i + 16 ≤ length xs → among q (take n (drop i xs)) ≡ false → (i + 16) + place_of q (drop (i + 16) xs) ≡ place_of q xs
-  chunk_passed n e l a =
-      let z = length-drop i xs in
-      let f = place_front q n (drop i xs) (omega arith) a in
-      let g = ap (place_of q) (drop-drop n i xs ∙ ap (λ j. drop (i + j) xs) e) in
-      omega arith
+-- how many of the first n chunks of c blocks stand before one that has q
+abbrev pub passed : Block → (c n : ℕ) → List Block → ℕ
+passed q c n xs = position_or_len (among q) (first_chunks c n xs)
 
-  pub block_passed : (d : Block) → i < length xs → same (get_or xs i d) q ≡ false → (i + 1) + place_of q (drop (i + 1) xs) ≡ place_of q xs
-  block_passed d l = goes_on (λ x. same x q) xs i inv (get_or xs i d) l (get_or_default xs i d (get_or xs i d) l)
+module _ (q : Block) (c : ℕ) where
+  pub passed_within : (n : ℕ) (xs : List Block) → passed q c n xs ≤ n
+  passed_within zero xs = omega arith
+  passed_within (suc n) xs = let ih = passed_within n (drop c xs) in grind arith
 
-  pub place_here : (d : Block) → i < length xs → same (get_or xs i d) q ≡ true → i ≡ place_of q xs
-  place_here d l = stops (λ x. same x q) xs i inv (get_or xs i d) l (get_or_default xs i d (get_or xs i d) l)
+  pub chunks_passed : (n : ℕ) (xs : List Block) → n * c ≤ length xs → first q xs ≡ passed q c n xs * c + first q (drop (passed q c n xs * c) xs)
+  chunks_passed zero xs l = grind arith
+  chunks_passed (suc n) xs l =
+      let t = sym (ap (first q) (take-append-drop c xs)) ∙ first_append q (take c xs) (drop c xs) in
+      let w = length-take-le c xs in
+      let d = length-drop c xs in
+      let ih = chunks_passed n (drop c xs) in
+      let f = ap (first q) (drop-drop (passed q c n (drop c xs) * c) c xs) in
+      let m = suc-mul n c in
+      let k = suc-mul (passed q c n (drop c xs)) c in
+      elim (cases_Bool (among q (take c xs))) [ inl e ↦ rw e (grind arith) | inr e ↦ rw e (grind arith) ]
 
-  pub place_end : length xs ≤ i → i ≡ place_of q xs
-  place_end l = ends (λ x. same x q) xs i inv l
+pub place_behind : (q : Block) (k : ℕ) (xs : List Block) → k ≤ length xs → first q xs ≡ k + first q (drop k xs)
+    → option_map (λ at. k + at) (position (λ b. same b q) (drop k xs)) ≡ position (λ b. same b q) xs
+place_behind q k xs l e = let d = length-drop k xs in grind arith
 
 -- ---- none repeats
 
-module _ (K : List Block) (i : ℕ) (inv : no_repeat (drop i K) ≡ no_repeat K) where
-  -- by a look at what stands behind, as the checker has it
-  pub repeat_here : (d : Block) → i < length K → among (get_or K i d) (take (length K - (i + 1)) (drop (i + 1) K)) ≡ true → false ≡ no_repeat K
-  repeat_here d l a =
-      let e : no_repeat (drop i K) ≡ (not (among (get_or K i d) (drop (i + 1) K)) && no_repeat (drop (i + 1) K)) = at_drop_more no_repeat K i d l in
-      let r = take_rest K (i + 1) in
-      grind arith
-
-  pub none_here : (d : Block) → i < length K → among (get_or K i d) (take (length K - (i + 1)) (drop (i + 1) K)) ≡ false → no_repeat (drop (i + 1) K) ≡ no_repeat K
-  none_here d l a =
-      let e : no_repeat (drop i K) ≡ (not (among (get_or K i d) (drop (i + 1) K)) && no_repeat (drop (i + 1) K)) = at_drop_more no_repeat K i d l in
-      let r = take_rest K (i + 1) in
-      grind arith
-
-  pub no_repeat_end : length K ≤ i → true ≡ no_repeat K
-  no_repeat_end l = sym (at_drop_all no_repeat K i l) ∙ inv
-
 among_at : (b : Block) (K : List Block) (k : ℕ) → k < length K → get_or K k b ≡ b → among b K ≡ true
-among_at b [] k l e = absurd (omega arith)
-among_at b (x ∷ K) zero l e = let r = same_refl b in let f = ap (λ y. same y b) e in grind arith
+among_at b [] k l e = grind arith
+among_at b (x ∷ K) zero l e = let r = same_refl b in grind arith
 among_at b (x ∷ K) (suc k) l e = let ih = among_at b K k in grind arith
 
-repeat_step : (x b : Block) (K : List Block) (k : ℕ) → among x K ≡ false → among b K ≡ true → place_of b K ≡ k → place_of b (x ∷ K) ≡ suc k
-repeat_step x b K k n a e =
-    let f = same_equal x b in
-    elim (cases_Bool (same x b)) [
-      | inl t ↦ absurd (both_ways (among b K) (subst (λ y. among y K ≡ false) (f t) n) a)
-      | inr t ↦ rw t (ap suc e)
-    ]
-
 pub no_repeat_distinct : (K : List Block) → no_repeat K ≡ true → Distinct K
-no_repeat_distinct [] n k b l e = absurd (omega arith)
-no_repeat_distinct (x ∷ K) n zero b l e = let r = same_refl b in let f = ap (λ y. same y b) e in grind arith
+no_repeat_distinct [] n k b l e = grind arith
+no_repeat_distinct (x ∷ K) n zero b l e = let r = same_refl b in grind arith
 no_repeat_distinct (x ∷ K) n (suc k) b l e =
-    let p = and_parts (not (among x K)) (no_repeat K) n in
-    repeat_step x b K k (not-true (among x K) p.0) (among_at b K k (omega arith) e) (no_repeat_distinct K p.1 k b (omega arith) e)
+    let ih = no_repeat_distinct K in
+    let a = among_at b K k in
+    let f = same_equal x b in
+    grind arith

@@ -1,7 +1,7 @@
 -- The same on the tables: what keeps them in order.
-use Rattle.std.proofs.Common.{◌≡◌, ℕ, ◌+◌, ◌*◌, ◌<◌, ◌≤◌, true, false, cond, eqb, List, ◌++◌, length, get_or, take, drop, set, sym, refl, ap, ◌∙◌, subst, subst₂, inl, inr, arith}
+use Rattle.std.proofs.Common.{◌≡◌, ℕ, ◌+◌, ◌*◌, ◌<◌, ◌≤◌, true, false, cond, eqb, List, length, get_or, take, drop, set, sym, ap, ◌∙◌, subst, subst₂, inl, inr, arith}
 use Rattle.std.proofs.lemmas.List.{take-append-drop, drop-drop, length-take-le, get_or-take, get_or_default, set-get_or}
-use Rattle.std.proofs.lemmas.Bool.{cases_eq, ltb-false, eq-eqb, ne_eqb, and_right, both_ways}
+use Rattle.std.proofs.lemmas.Bool.{cases_eq, ltb-false, and_right}
 use Rattle.places.specs.Parts.{part, put, start}
 use Rattle.places.proofs.Portions.{part_in, apart, length_part, get_d_part, part_set, part_set-out, part_put, part_put-out}
 use Rattle.trace.specs.Items.{same}
@@ -10,7 +10,7 @@ use Rattle.trace.proofs.Blocks.{same_equal}
 use Rattle.stack.specs.declared.Entry.{Entry}
 use Rattle.stack.specs.Stack.{stack, touched, dropped, restack}
 use Rattle.tables.specs.declared.Mark.{Mark}
-use Rattle.tables.specs.declared.Mark.TheVariants.{Never, Held, Lost}
+use Rattle.tables.specs.declared.Mark.TheVariants.{Never}
 use Rattle.tables.specs.declared.Event.TheVariants.{Own, OthersWrite}
 use Rattle.tables.specs.declared.Settings.{Settings}
 use Rattle.tables.specs.Tables.{Tables, stretch, mark_at, drops_from}
@@ -59,9 +59,6 @@ module _ (s : Settings) (t : Tables) (le : s.processors * s.entries ≤ length t
             (rest r lr hr)
       ]
 
-new_count : (x n blocks : ℕ) → n ≤ blocks → x < blocks → cond (eqb x n) (n + 1) n ≤ blocks
-new_count x n blocks l k = elim (cases_eq x n) [ inl e ↦ rw (eq-eqb x n e) (omega arith) | inr e ↦ rw (ne_eqb x n e) l ]
-
 pub own_in_order : OwnKeeps
 own_in_order m s n t p q le lk lm lo hi o width room =
     let K = take n t.known in
@@ -74,7 +71,7 @@ own_in_order m s n t p q le lk lm lo hi o width room =
     own_orderly q K es (marks_of s p t) (o.rows p lo hi) m x (omega (arith, marks_size s t le lm p lo hi))
     (omega (arith, stretch_size s t le lm p lo hi, ltb-false s.entries (length (touched m q (stack es))) room)) in
     record {
-      few = new_count k n s.blocks o.few width;
+      few = grind arith;
       distinct = rw ks (distinct_grown q K o.distinct);
       rows = rw ks (rows_step s t le lm p lo hi (grown q K) k (restack (touched m q (stack es)) es) (marked x Own) width x'
           (λ r lr hr. record { cleared = (o.rows r lr hr).cleared; once = λ b. omega (arith, (o.rows r lr hr).once b, held_grown q b K (marks_of s r t)) }));
@@ -96,13 +93,10 @@ write_in_order m s n t p q le lk lm lo hi o l =
 
 put_part : {A : Type 0} (a n : ℕ) (xs : List A) → put a n (part a n xs) xs ≡ xs
 put_part a n xs =
-    ap (λ ys. take a xs ++ (part a n xs ++ ys)) (sym (drop-drop n a xs))
-    ∙ ap (λ ys. take a xs ++ ys) (take-append-drop n (drop a xs)) ∙ take-append-drop a xs
-
-written_same : (x : Mark) → is_held x ≡ false → marked x OthersWrite ≡ x
-written_same Never e = refl
-written_same Held e = absurd (both_ways true e refl)
-written_same Lost e = refl
+    let d = drop-drop n a xs in
+    let t = take-append-drop n (drop a xs) in
+    let u = take-append-drop a xs in
+    grind arith
 
 pub write_skipped : WriteSkips
 write_skipped m s n t p q le lk lm lo hi o l f =
@@ -116,6 +110,7 @@ write_skipped m s n t p q le lk lm lo hi o l f =
     let once = r.once q in
     let z : times q (stack es) ≤ 0 = rw none at once in
     let a = ap (λ X. put (start s.entries p) s.entries X t.entries) (write_absent q K es M r s.levels z) ∙ put_part (start s.entries p) s.entries t.entries in
-    let b = ap (set t.marks (mark_at s p k)) (written_same (get_or t.marks (mark_at s p k) Never) f) ∙ set-get_or t.marks (mark_at s p k) Never in
+    let same : marked (get_or t.marks (mark_at s p k) Never) OthersWrite ≡ get_or t.marks (mark_at s p k) Never = grind arith in
+    let b = ap (set t.marks (mark_at s p k)) same ∙ set-get_or t.marks (mark_at s p k) Never in
     let c = no_scores q m s (drops_from s p) (stack es) s.levels t.counters z in
     λ i. record { entries = a i; known = t.known; marks = b i; counters = c i }

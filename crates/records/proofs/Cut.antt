@@ -1,5 +1,5 @@
 -- Six bytes and more: the item that they begin with, and what is answered of it.
-use Rattle.std.proofs.Common.{◌≡◌, ℕ, ◌+◌, ◌≤◌, List, [], ◌∷◌, length, get_or, drop, Some, Ok, Err, refl, ap, arith}
+use Rattle.std.proofs.Common.{◌≡◌, ℕ, ◌+◌, ◌≤◌, List, [], ◌∷◌, length, get_or, drop, Some, Ok, Err, refl, ap, ◌∙◌, arith}
 use Rattle.trace.specs.Text.{Parsed, item}
 use Rattle.trace.specs.Next.{handed, Given}
 use Rattle.trace.specs.Records.{record_of, record_items}
@@ -21,15 +21,16 @@ cut (p ∷ (o ∷ (a ∷ (b ∷ (c ∷ (d ∷ rest)))))) h = refl
 
 accepts : (n : ℕ) (p : Parsed Reference) (x : Reference) → Ok x ≡ in_record n p → Ok (Some x) ≡ handed (item p) n
 accepts n (Ok y) x e = let same : x ≡ y = cc in rw same
-accepts n (Err y) x e = let z : ◌≡◌ {A = ℕ} 0 1 = cc in absurd (omega arith)
+accepts n (Err y) x e = cc
 
 refuses : (n : ℕ) (p : Parsed Reference) (e : RecordFault) → Err e ≡ in_record n p → Err (of_source e) ≡ handed (item p) n
-refuses n (Ok y) e h = let z : ◌≡◌ {A = ℕ} 0 1 = cc in absurd (omega arith)
+refuses n (Ok y) e h = cc
 refuses n (Err y) e h = let same : e ≡ record { refusal = y; item = n } = cc in rw same
 
-module _ (xs rest : List ℕ) (n : ℕ) (h : 6 ≤ length xs) (s : rest ≡ drop 6 xs) where
-  pub accepted : (x : Reference) → Ok x ≡ in_record (n + 1) (first_of xs) → Given (record_items xs) n (Ok (Some x)) (record_items rest) (n + 1)
-  accepted x e = rw (cut xs h) (accepts (n + 1) (first_of xs) x e, ap record_items s, refl)
+-- of all that was left, `bytes` is lent for the next item, whose number is `item`; `rest` is put back
+module _ (left bytes rest : List ℕ) (n item n' : ℕ) (lent : bytes ≡ left) (numbered : item ≡ n + 1) (counted : n' ≡ item) (h : 6 ≤ length bytes) (s : rest ≡ drop 6 bytes) where
+  pub accepted : (x : Reference) → Ok x ≡ in_record item (first_of bytes) → Given (record_items left) n (Ok (Some x)) (record_items rest) n'
+  accepted x e = rw (← lent, cut bytes h) (rw (← numbered) (accepts item (first_of bytes) x e), ap record_items s, counted ∙ numbered)
 
-  pub refused : (x : RecordFault) → Err x ≡ in_record (n + 1) (first_of xs) → Given (record_items xs) n (Err (of_source x)) (record_items rest) (n + 1)
-  refused x e = rw (cut xs h) (refuses (n + 1) (first_of xs) x e, ap record_items s, refl)
+  pub refused : (x : RecordFault) → Err x ≡ in_record item (first_of bytes) → Given (record_items left) n (Err (of_source x)) (record_items rest) n'
+  refused x e = rw (← lent, cut bytes h) (rw (← numbered) (refuses item (first_of bytes) x e), ap record_items s, counted ∙ numbered)

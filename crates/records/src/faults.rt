@@ -4,7 +4,7 @@ ghost use Rattle.records.specs.Faults.{of_source};
 use trace::{Fault, Layer, Refusal};
 
 // A refused record: why, and which one by the source's count.
-#[derive(Clone, Copy)]
+#[derive(Clone, Copy, PartialEq, Eq)]
 pub struct RecordFault {
     pub refusal: Refusal,
     pub item: u64,

@@ -1,2 +1,4 @@
 pub mod Refused
+pub mod Inputs
+pub mod Reports
 pub mod Settings

@@ -12,9 +12,12 @@ mapping BitChoice = bit_choice
 mapping Thirds = thirds
 
 -- 'b' or 't'
+abbrev pub letter_map : ℕ → Parsed Map
+letter_map b = cond (b == 98) (Ok BitChoice) (cond (b == 116) (Ok Thirds) (Err Form))
+
 abbrev pub map_field : List ℕ → Parsed Map
 map_field [] = Err Form
-map_field (b ∷ []) = cond (b == 98) (Ok BitChoice) (cond (b == 116) (Ok Thirds) (Err Form))
+map_field (b ∷ []) = letter_map b
 map_field (b ∷ (c ∷ bs)) = Err Form
 
 abbrev pub any_number : List ℕ → Parsed ℕ

@@ -1,23 +1,45 @@
 #![tactic(auto)]
 
-ghost use Rattle.std.specs.Prelude.{◌≡◌, Ok, Err};
+ghost use Rattle.std.specs.Prelude.{◌≡◌, ℕ, List, Ok, Err, Some};
 ghost use Rattle.text.specs.Cuts.{upto, past};
-ghost use Rattle.report.specs.Refused.{refused_line, refused_text};
-ghost use Rattle.report.specs.Settings.{map_field};
+ghost use Rattle.report.specs.Refused.{refused_line};
+ghost use Rattle.report.specs.Settings.{map_field, letter_map};
 
-use rendering::{Line, push_titled};
 use std::alloc::AllocError;
+use std::fmt;
 use text::cut::take_field;
 use trace::Refusal;
+
+mod errors;
+mod input;
+mod rendered;
+
+pub use input::{read_input, split_input};
+pub use rendered::render;
 
 // The longest input that a program reads.
 pub const INPUT_LIMIT: usize = 65_536;
 
 // The set map that an input names.
-#[derive(Clone, Copy)]
+#[derive(Clone, Copy, PartialEq, Eq)]
 pub enum Map {
     BitChoice,
     Thirds,
+}
+
+// A map by its letter.
+impl TryFrom<char> for Map {
+    type Error = Refusal;
+
+    ghost try_from_gives = { λ letter r. r ≡ letter_map letter };
+
+    fn try_from(letter: char) -> Result<Map, Refusal> {
+        match letter {
+            'b' => Ok(Map::BitChoice),
+            't' => Ok(Map::Thirds),
+            _ => Err(Refusal::Form),
+        }
+    }
 }
 
 // The first field of a line as a map, and the rest of the line.
@@ -28,35 +50,48 @@ pub fn take_map(line: &[u8]) -> Result<(Map, &[u8]), Refusal>
     let [letter] = field else {
         return Err(Refusal::Form);
     };
-    match char::from(*letter) {
-        'b' => Ok((Map::BitChoice, rest)),
-        't' => Ok((Map::Thirds, rest)),
-        _ => Err(Refusal::Form),
-    }
+    let map = Map::try_from(char::from(*letter))?;
+    Ok((map, rest))
 }
 
 // A refused line of the input, by its number from 1, or 0 for the input as a whole.
-#[derive(Clone, Copy)]
+#[derive(Clone, Copy, PartialEq, Eq)]
 pub struct RefusedLine {
     pub line: u64,
-    pub number: u32,
+    pub refusal: Refusal,
 }
 
 impl RefusedLine {
     pub fn new(line: u64, refusal: Refusal) -> RefusedLine
         ensures { result ≡ refused_line line refusal }
     {
-        RefusedLine {
-            line,
-            number: refusal.number(),
-        }
+        RefusedLine { line, refusal }
     }
 }
 
-impl Line for RefusedLine {
-    ghost text = { refused_text };
+// A row of a report, which writes itself without its line feed.
+pub trait Row: fmt::Display {
+    ghost heading: { List ℕ };
 
-    fn push(&self, out: &mut String) -> Result<(), AllocError> {
-        push_titled(out, "refused", &[self.line, u64::from(self.number)])
-    }
+    ghost text: { Self → List ℕ };
+
+    // What stands above the rows. It is no constant, since no clause could name the bytes of a constant text.
+    fn heading() -> &'static str
+        ensures { result.now ≡ heading };
+
+    ghost shows: { (x : Self) → Self.output x ≡ Some (text x) };
+}
+
+// Refused lines, and rows.
+#[derive(Drop)]
+pub struct Report<R> {
+    pub refused: Vec<RefusedLine>,
+    pub rows: Vec<R>,
+}
+
+// Why there is no report: a refused line is all that is to be said of the input, or there is no memory.
+#[derive(Clone, Copy, PartialEq, Eq)]
+pub enum ReportError {
+    Refused(RefusedLine),
+    NoMemory(AllocError),
 }

@@ -5,6 +5,7 @@ use super::SetMap;
 use super::bits::levels_by_bits;
 
 // Three times 2^i sets at level i of 16: the remainder of the block number chooses.
+// Written beside bit choice: one form for both takes a trait of two constants with their meanings and laws, which is longer.
 #[derive(Clone, Copy)]
 pub struct Thirds;
 

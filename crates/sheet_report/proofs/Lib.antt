@@ -1,6 +1,2 @@
-pub mod Runs
-pub mod Verdicts
-pub mod Underway
-pub mod Turns
-pub mod Lines
-pub mod Whole
+mod Readings
+mod Whole

@@ -1,3 +1,2 @@
 pub mod Settings
 pub mod Evening
-pub mod Steps

@@ -1,8 +1,7 @@
 -- Line 1 of the evening sheet's input: `map,processors,shift,levels,ways,blocks`.
-use Rattle.std.specs.Prelude.{ℕ, ◌*◌, List, [], ◌∷◌, Ok, Err}
+use Rattle.std.specs.Prelude.{ℕ, List, [], ◌∷◌, Ok, Err}
 use Rattle.trace.specs.Text.{Parsed, ◌then◌}
 use Rattle.trace.specs.declared.Refusal.TheVariants.{Form}
-use Rattle.tables.specs.declared.Settings.{Settings}
 use Rattle.report.specs.Settings.{map_field, any_number}
 use Rattle.sheet_report.specs.declared.Chosen.{Chosen}
 
@@ -16,9 +15,5 @@ chosen (a ∷ (b ∷ (c ∷ (d ∷ [])))) = Err Form
 chosen (a ∷ (b ∷ (c ∷ (d ∷ (e ∷ []))))) = Err Form
 chosen (a ∷ (b ∷ (c ∷ (d ∷ (e ∷ (f ∷ [])))))) =
     map_field a then λ m. any_number b then λ p. any_number c then λ s. any_number d then λ l. any_number e then λ w. any_number f then λ n.
-    Ok (record { map = m; processors = p; shift = s; levels = l; ways = w; blocks = n })
+    Ok (record { map = m; sizes = record { processors = p; shift = s; levels = l; ways = w; blocks = n } })
 chosen (a ∷ (b ∷ (c ∷ (d ∷ (e ∷ (f ∷ (g ∷ gs))))))) = Err Form
-
--- a study of them, with entries for each level and block
-abbrev pub settings_of : Chosen → Settings
-settings_of x = record { processors = x.processors; shift = x.shift; levels = x.levels; ways = x.ways; blocks = x.blocks; entries = x.levels * x.blocks }

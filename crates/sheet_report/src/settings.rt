@@ -4,6 +4,7 @@ ghost use Rattle.trace.specs.Text.{pieces};
 
 use super::Chosen;
 use report::take_map;
+use sheets::Sizes;
 use text::cut::count_fields;
 use text::fields::take_number;
 use trace::Refusal;
@@ -23,10 +24,12 @@ pub fn read_settings(line: &[u8]) -> Result<Chosen, Refusal>
     let (blocks, _) = take_number(rest, u32::MAX, 0)?;
     Ok(Chosen {
         map,
-        processors,
-        shift,
-        levels,
-        ways,
-        blocks,
+        sizes: Sizes {
+            processors,
+            shift,
+            levels,
+            ways,
+            blocks,
+        },
     })
 }

@@ -1,7 +1,7 @@
 -- A bulk feed, item by item, is a reading: it accepts the same references and refuses the same lines.
 use Rattle.std.proofs.Common.{◌≡◌, ℕ, ◌+◌, ◌*◌, ◌≤◌, false, List, [], ◌∷◌, ◌++◌, map, length, Some, None, Ok, Err, Option, Result, sym, refl, ap, ◌∙◌, subst, arith}
 use Rattle.std.proofs.lemmas.List.{append-nil, append_assoc, map_push}
-use Rattle.std.proofs.lemmas.Bool.{le-ltb}
+use Rattle.std.proofs.lemmas.Bool.Decides.{nat_tests}
 use Rattle.setmap.specs.Mapping.{Mapping, Lawful}
 use Rattle.trace.specs.Items.{Item, reference, bad}
 use Rattle.trace.specs.declared.Fault.{Fault}
@@ -9,8 +9,8 @@ use Rattle.trace.specs.declared.Reference.{Reference}
 use Rattle.trace.specs.declared.Refusal.{Refusal}
 use Rattle.caches.specs.Caches.{History}
 use Rattle.tables.specs.declared.Settings.{Settings}
-use Rattle.tables.specs.declared.Fed.{Fed}
-use Rattle.tables.specs.Tables.{Tables, row}
+use Rattle.trace.specs.declared.Fed.{Fed}
+use Rattle.tables.specs.Tables.{Tables}
 use Rattle.tables.specs.Calls.{Kept, short, reference_refusal, outcome, accepted_reference, fed_answer, fed_item, fed}
 use Rattle.tables.specs.Bulk.{Standing, faulted, fed_all}
 use Rattle.tables.proofs.Bulk.{fed_long}
@@ -40,12 +40,7 @@ faulted_lines fs (Err f) = map_push fault_line fs f
 
 -- tables that are long enough are not short
 pub not_short : (s : Settings) (t : Tables) → Long s t → short s t ≡ false
-not_short s t l =
-    let a = le-ltb (length t.entries) (s.processors * s.entries) l.entries in
-    let b = le-ltb (length t.known) s.blocks l.known in
-    let c = le-ltb (length t.marks) (s.processors * s.blocks) l.marks in
-    let d = le-ltb (length t.counters) (s.processors * row s) l.counters in
-    simp (a, b, c, d)
+not_short s t l = grind (arith, nat_tests)
 
 -- each item is answered
 pub fed_count : (m : Mapping) (s : Settings) (kept : Kept) (t : Tables) (items later : List Item) (n : ℕ) (fs : List Fault) → (fed_all m s kept t items later n fs).answered ≡ n + length items

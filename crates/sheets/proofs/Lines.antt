@@ -1,5 +1,5 @@
 -- The figures that a closed study counts are the separate caches', so the sheet's lines are.
-use Rattle.std.proofs.Common.{◌≡◌, ℕ, suc, ◌+◌, ◌<◌, List, [], ◌∷◌, ◌++◌, Ok, sym, ap, ◌∙◌, subst, add-one, arith}
+use Rattle.std.proofs.Common.{◌≡◌, ℕ, zero, suc, ◌+◌, ◌-◌, ◌<◌, ◌≤◌, List, [], ◌∷◌, ◌++◌, Ok, sym, refl, ap, ◌∙◌, subst, add-one, arith}
 use Rattle.std.proofs.lemmas.List.{append_assoc}
 use Rattle.setmap.specs.Mapping.{Mapping, Lawful, offered}
 use Rattle.caches.specs.declared.Figures.{Figures}
@@ -12,7 +12,7 @@ use Rattle.theory.specs.Faithful.{AsCaches}
 use Rattle.theory.proofs.Theorem.{faithful}
 use Rattle.theory.proofs.Worlds.{run_good}
 use Rattle.sheets.specs.declared.Row.{Row}
-use Rattle.sheets.specs.Sheets.{ways_rows, level_rows, rows}
+use Rattle.sheets.specs.Sheets.{row_of, ways_rows, level_rows, rows}
 use Rattle.sheets.specs.Steps.{Closed}
 use Rattle.sheets.proofs.Runs.{all_of, front_all}
 
@@ -28,22 +28,21 @@ module _ (m : Mapping) (s : Settings) (t : Tables) (t₀ : Tables) (h : History)
   level_is i l = omega (arith, (run_good m law s t₀ closed.0 _ closed.2).fit.offered)
 
   -- one line more
-  pub ways_more : (p i n d sets : ℕ) (x : Figures) (old v : List Row) → i < s.levels → d ≡ n + 1 → sets ≡ m.sets (offered m i) → counted m s t p i d ≡ Ok x → v ≡ old ++ ways_rows m h p i n
-      → v ++ (record { processor = p; level = i; sets = sets; ways = d; figures = x } ∷ []) ≡ old ++ ways_rows m h p i (n + 1)
-  ways_more p i n d sets x old v low k l e f =
-      let q : d ≡ suc n = k ∙ add-one n in
-      ap (λ ys. ys ++ (record { processor = p; level = i; sets = sets; ways = d; figures = x } ∷ [])) f
-      ∙ append_assoc old (ways_rows m h p i n) (record { processor = p; level = i; sets = sets; ways = d; figures = x } ∷ [])
-      ∙ ap (λ y. old ++ (ways_rows m h p i n ++ (record { processor = p; level = i; sets = y; ways = d; figures = x } ∷ []))) (l ∙ ap m.sets (level_is i low))
-      ∙ ap (λ y. old ++ (ways_rows m h p i n ++ (record { processor = p; level = i; sets = m.sets i; ways = d; figures = y } ∷ []))) (figures_are p i d x e)
-      ∙ ap (λ y. old ++ (ways_rows m h p i n ++ (record { processor = p; level = i; sets = m.sets i; ways = y; figures = figures m p i y h } ∷ []))) q
-      ∙ sym (ap (λ j. old ++ ways_rows m h p i j) (add-one n))
+  pub ways_more : (p i d k sets : ℕ) (x : Figures) (old v u : List Row) → i < s.levels → 1 ≤ d → d ≡ k → sets ≡ m.sets (offered m i) → counted m s t p i d ≡ Ok x → v ≡ old ++ ways_rows m h p i (d - 1)
+      → u ≡ v ++ (record { processor = p; level = i; sets = sets; ways = d; figures = x } ∷ []) → u ≡ old ++ ways_rows m h p i k
+  ways_more p i zero k sets x old v u low some e l f a b = absurd (omega arith)
+  ways_more p i (suc n) k sets x old v u low some e l f a b =
+      let z = ap m.sets (level_is i low) in
+      let y = figures_are p i (suc n) x f in
+      let less : suc n - 1 ≡ n = omega arith in
+      rw (b, a, less, l, z, y, sym e) (append_assoc old (ways_rows m h p i n) (row_of m h p i (suc n) ∷ []))
 
 -- a level more, and a processor more
 pub levels_more : (m : Mapping) (h : History) (p w i : ℕ) (old v u : List Row) → v ≡ old ++ level_rows m h p w i → u ≡ v ++ ways_rows m h p i w → u ≡ old ++ level_rows m h p w (i + 1)
-levels_more m h p w i old v u e f =
-    f ∙ ap (λ ys. ys ++ ways_rows m h p i w) e ∙ append_assoc old (level_rows m h p w i) (ways_rows m h p i w) ∙ sym (ap (λ j. old ++ level_rows m h p w j) (add-one i))
+levels_more m h p w i old v u e f = rw (f, e, add-one i) (append_assoc old (level_rows m h p w i) (ways_rows m h p i w))
 
-pub processors_more : (m : Mapping) (h : History) (l w n p : ℕ) (v u : List Row) → p ≡ n + 1 → v ≡ rows m h l w n → u ≡ v ++ level_rows m h p w l → u ≡ rows m h l w (n + 1)
-processors_more m h l w n p v u d e f =
-    f ∙ ap (λ ys. ys ++ level_rows m h p w l) e ∙ ap (λ j. rows m h l w n ++ level_rows m h j w l) (d ∙ add-one n) ∙ sym (ap (rows m h l w) (add-one n))
+pub processors_more : (m : Mapping) (h : History) (l w p i k : ℕ) (v u : List Row) → 1 ≤ p → p ≡ k → i ≡ l → v ≡ rows m h l w (p - 1) → u ≡ v ++ level_rows m h p w i → u ≡ rows m h l w k
+processors_more m h l w zero i k v u some d a e f = absurd (omega arith)
+processors_more m h l w (suc n) i k v u some d a e f =
+    let less : suc n - 1 ≡ n = omega arith in
+    rw (f, e, less, a, sym d) refl

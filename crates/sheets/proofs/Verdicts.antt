@@ -1,6 +1,7 @@
 -- A study that stands for its history refuses a reference just where the sheet's verdict does.
-use Rattle.std.proofs.Common.{◌≡◌, ◌-◌, ◌*◌, ◌^◌, ◌≤◌, Bool, false, cond, not, ◌&&◌, eqb, List, ◌∷◌, length, Some, None, Err, Option, sym, refl, ap, ◌∙◌, subst, inl, inr, arith}
-use Rattle.std.proofs.lemmas.Bool.{cases_Bool, cond-true, cond-false, eq-eqb, ne_eqb}
+use Rattle.std.proofs.Common.{◌≡◌, ◌-◌, ◌*◌, ◌^◌, ◌≤◌, Bool, true, false, cond, not, ◌&&◌, eqb, List, ◌∷◌, length, Some, None, Err, Option, refl, ap, ◌∙◌, subst, arith}
+use Rattle.std.proofs.lemmas.Bool.{cond-false}
+use Rattle.std.proofs.lemmas.Bool.Decides.{nat_tests}
 use Rattle.setmap.specs.Mapping.{Mapping, Lawful}
 use Rattle.trace.specs.Items.{block_of}
 use Rattle.trace.specs.Refusals.{outside}
@@ -24,10 +25,20 @@ use Rattle.sheets.proofs.Runs.{all_of, front_all}
 -- a block is not among the known ones exactly where it would be the next
 unknown : (b : Block) (K : List Block) → eqb (place_of b K) (length K) ≡ not (among b K)
 unknown b K =
-    elim (cases_Bool (among b K)) [
-      | inl e ↦ ne_eqb (place_of b K) (length K) (λ x. omega (arith, place_in b K e)) ∙ sym (ap not e)
-      | inr e ↦ eq-eqb (place_of b K) (length K) (place_out b K e) ∙ sym (ap not e)
-    ]
+    let there = place_in b K in
+    let not_there = place_out b K in
+    grind (arith, nat_tests)
+
+-- a reference is judged by the count of those accepted, its processor, the known blocks and the entries
+abbrev judged : (references processor blocks entries : Bool) → Option Refusal
+judged a b c d = cond a (Some References) (cond b (Some Processor) (cond c (Some Blocks) (cond d (Some Entries) None)))
+
+without_entries : (a b c d : Bool) → (judged a b c d ≡ Some Entries → ⊥) → judged a b c d ≡ judged a b c false
+without_entries true b c d never = refl
+without_entries false true c d never = refl
+without_entries false false true d never = refl
+without_entries false false false true never = absurd (never refl)
+without_entries false false false false never = refl
 
 module _ (m : Mapping) (law : Lawful m) (s : Settings) (wide : s.levels * s.blocks ≤ s.entries) (t₀ : Tables) (h : History) (kept : Kept) (t : Tables) (reached : Reached m s t₀ h kept t)
     (long : short s t ≡ false) (r : Reference) where
@@ -51,47 +62,11 @@ module _ (m : Mapping) (law : Lawful m) (s : Settings) (wide : s.levels * s.bloc
       let answer : (referenced m s kept t r).answer ≡ Err Entries = ap (λ x. (outcome x kept t (accepted_reference m s kept t r)).answer) e in
       subst (λ y. HasRoom (of_reference y)) (ap (λ u. (referenced m s kept u r).answer) (front_all t) ∙ answer) g refl
 
-  -- a block too many, and then entries too few
-  abbrev by_block : Option Refusal
-  by_block = cond (no_more_known s kept t q) (Some Blocks) (cond (no_more_entries m s t r.processor q) (Some Entries) None)
-
-  abbrev by_processor : Option Refusal → Option Refusal
-  by_processor x = cond (outside 1 s.processors r.processor) (Some Processor) x
-
-  abbrev by_count : Option Refusal → Option Refusal
-  by_count x = cond (eqb (length h) (2 ^ 32 - 1)) (Some References) x
-
-  judged_by : reference_refusal m s kept t r ≡ by_count (by_processor by_block)
+  judged_by : reference_refusal m s kept t r ≡ judged (eqb (length h) (2 ^ 32 - 1)) (outside 1 s.processors r.processor) full (no_more_entries m s t r.processor q)
   judged_by =
-      cond-false (short s t) _ _ long
-      ∙ ap (λ n. cond (eqb n (2 ^ 32 - 1)) (Some References) (by_processor by_block)) (run_good m law s t₀ reached.0 _ reached.2).stands.accepted
-
-  in_range : reference_refusal m s kept t r ≡ by_block → by_block ≡ cond full (Some Blocks) None
-  in_range e =
-      elim (cases_Bool full) [
-        | inl f ↦ cond-true (no_more_known s kept t q) _ _ (known_same ∙ f) ∙ sym (cond-true full _ _ f)
-        | inr f ↦ (let rest = cond-false (no_more_known s kept t q) (Some Blocks) (cond (no_more_entries m s t r.processor q) (Some Entries) None) (known_same ∙ f) in
-            rest
-            ∙ elim (cases_Bool (no_more_entries m s t r.processor q)) [
-              | inl k ↦ absurd (never_full (e ∙ rest ∙ cond-true (no_more_entries m s t r.processor q) _ _ k))
-              | inr k ↦ cond-false (no_more_entries m s t r.processor q) _ _ k
-            ]
-            ∙ sym (cond-false full _ _ f))
-      ]
-
-  counted : reference_refusal m s kept t r ≡ by_processor by_block → by_processor by_block ≡ by_processor (cond full (Some Blocks) None)
-  counted e =
-      let b = outside 1 s.processors r.processor in
-      elim (cases_Bool b) [
-        | inl f ↦ cond-true b _ _ f ∙ sym (cond-true b _ _ f)
-        | inr f ↦ ap by_processor (in_range (e ∙ cond-false b _ _ f))
-      ]
+      let accepted = (run_good m law s t₀ reached.0 _ reached.2).stands.accepted in
+      cond-false (short s t) _ _ long ∙ rw (accepted, known_same) refl
 
   pub agree : reference_refusal m s kept t r ≡ verdict s h r
   agree =
-      let b = eqb (length h) (2 ^ 32 - 1) in
-      judged_by
-      ∙ elim (cases_Bool b) [
-        | inl f ↦ cond-true b _ _ f ∙ sym (cond-true b _ _ f)
-        | inr f ↦ ap by_count (counted (judged_by ∙ cond-false b _ _ f))
-      ]
+      judged_by ∙ without_entries (eqb (length h) (2 ^ 32 - 1)) (outside 1 s.processors r.processor) full (no_more_entries m s t r.processor q) (λ e. never_full (judged_by ∙ e))

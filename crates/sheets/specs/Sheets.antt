@@ -1,6 +1,5 @@
 -- What the sheets of a study say of a trace, in the words of the separate caches: no table and no stack is named here.
 use Rattle.std.specs.Prelude.{ℕ, zero, suc, ◌+◌, ◌-◌, ◌^◌, cond, not, ◌&&◌, List, [], ◌∷◌, ◌++◌, length, Some, None, codes, Option, ◌==◌}
-use Rattle.std.specs.List.{flat_map}
 use Rattle.setmap.specs.Mapping.{Mapping}
 use Rattle.trace.specs.Items.{Item, reference, bad, block_of}
 use Rattle.trace.specs.Refusals.{outside}
@@ -12,8 +11,8 @@ use Rattle.caches.specs.Caches.{History, among, figures}
 use Rattle.stack_theory.specs.Stacks.{met}
 use Rattle.tables.specs.declared.Settings.{Settings}
 use Rattle.theory.specs.Runs.{access}
-use Rattle.rendering.specs.Lines.{line_text, heading_text}
-use Rattle.report.specs.Refused.{refused_line, refused_text, Reading, refused_too}
+use Rattle.rendering.specs.Lines.{joined}
+use Rattle.report.specs.Refused.{refused_line, Reading, refused_too}
 use Rattle.report.specs.declared.RefusedLine.{RefusedLine}
 use Rattle.sheets.specs.declared.Row.{Row}
 
@@ -61,9 +60,9 @@ row_numbers x =
     let f = x.figures in
     x.processor ∷ (x.level ∷ (x.sets ∷ (x.ways ∷ (f.references ∷ (f.hits ∷ (f.drops ∷ (f.cold ∷ (f.lost ∷ (f.replaced ∷ [])))))))))
 
-abbrev pub row_text : Row → List ℕ
-row_text x = line_text (row_numbers x)
+-- what is written of a row, without its line feed
+abbrev pub row_shown : Row → List ℕ
+row_shown x = joined (row_numbers x)
 
--- the refused lines, the heading, and the rows
-abbrev pub sheet_text : List RefusedLine → List Row → List ℕ
-sheet_text xs ys = flat_map refused_text xs ++ (heading_text (codes "processor,level,sets,ways,references,hits,drops,cold,lost,replaced") ++ flat_map row_text ys)
+abbrev pub heading : List ℕ
+heading = codes "processor,level,sets,ways,references,hits,drops,cold,lost,replaced"

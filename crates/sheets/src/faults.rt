@@ -1,4 +1,4 @@
-ghost use Rattle.std.specs.Prelude.{◌≡◌, List, map, IfOk};
+ghost use Rattle.std.specs.Prelude.{◌≡◌, [], List, map, IfOk};
 ghost use Rattle.sheets.specs.Sheets.{fault_line};
 
 use report::RefusedLine;
@@ -8,27 +8,33 @@ use trace::{Fault, Sink};
 // The faults of a bulk feed, in a list that grows.
 #[derive(Drop)]
 pub(super) struct Faults {
-    pub(super) list: Vec<Fault>,
+    list: Vec<Fault>,
+}
+
+impl Faults {
+    pub(super) fn none(heap: Global) -> Faults
+        ensures { result.list.items ≡ [] }
+    {
+        Faults {
+            list: Vec::new(heap),
+        }
+    }
+
+    // The faults by their items' numbers.
+    pub(super) fn lines(&self, heap: Global) -> Result<Vec<RefusedLine>, AllocError>
+        ensures { IfOk result (λ v. v.items ≡ map fault_line self.now.list.items) }
+    {
+        self.list
+            .iter()
+            .map(|fault| RefusedLine::new(fault.item, fault.refusal))
+            .collect(heap)
+    }
 }
 
 impl Sink for Faults {
     ghost taken = { λ f. f.list.items };
 
     fn take(&mut self, fault: Fault) -> Result<(), Fault> {
-        match self.list.push(fault) {
-            Ok(()) => Ok(()),
-            Err(refused) => Err(refused.value),
-        }
+        self.list.push(fault).map_err(|refused| refused.value)
     }
-}
-
-// Faults by their items' numbers.
-pub(super) fn refused_lines(heap: Global, faults: &[Fault]) -> Result<Vec<RefusedLine>, AllocError>
-    ensures { IfOk result (λ v. v.items ≡ map fault_line faults.now) }
-{
-    let mut lines = Vec::new(heap);
-    for fault in faults {
-        lines.push(RefusedLine::new(fault.item, fault.refusal))?;
-    }
-    Ok(lines)
 }

@@ -3,6 +3,7 @@
 use caches::Figures;
 
 mod faults;
+mod lending;
 mod owned;
 mod owning;
 mod rendered;
@@ -12,7 +13,6 @@ mod studying;
 
 pub use owned::OwnTables;
 pub use owning::SheetStudy;
-pub use rendered::render_sheet;
 
 // The sizes of a study: its settings but the entries, which are enough for each level and block.
 #[derive(Clone, Copy)]

@@ -1,10 +1,9 @@
-ghost use Rattle.std.specs.Prelude.{◌≡◌, IfOk, string_bytes};
-ghost use Rattle.sheets.specs.Sheets.{row_numbers, row_text, sheet_text};
+ghost use Rattle.std.specs.Prelude.{◌≡◌, Some, refl};
+ghost use Rattle.sheets.specs.Sheets.{heading, row_numbers, row_shown};
 
 use super::Row;
-use rendering::{Line, push_heading, push_lines, push_numbers};
-use report::RefusedLine;
-use std::alloc::{AllocError, Global};
+use rendering::Numbers;
+use std::fmt;
 
 // The numbers of a line, in the heading's order.
 fn numbers_of(row: &Row) -> [u64; 10]
@@ -25,30 +24,23 @@ fn numbers_of(row: &Row) -> [u64; 10]
     ]
 }
 
-impl Line for Row {
-    ghost text = { row_text };
+impl fmt::Display for Row {
+    ghost output = { λ r. Some (row_shown r) };
 
-    fn push(&self, out: &mut String) -> Result<(), AllocError> {
+    fn fmt<W: fmt::Write>(&self, f: &mut fmt::Formatter<W>) -> fmt::Result {
         let numbers = numbers_of(self);
-        push_numbers(out, &numbers)?;
-        Ok(())
+        write!(f, "{}", Numbers(&numbers))
     }
 }
 
-// The text of a sheet: refused lines, a heading, and rows.
-pub fn render_sheet(
-    heap: Global,
-    refused: &[RefusedLine],
-    rows: &[Row],
-) -> Result<String, AllocError>
-    ensures { IfOk result (λ t. string_bytes t ≡ sheet_text refused.now rows.now) }
-{
-    let mut out = String::new(heap);
-    push_lines(&mut out, refused)?;
-    push_heading(
-        &mut out,
-        "processor,level,sets,ways,references,hits,drops,cold,lost,replaced",
-    )?;
-    push_lines(&mut out, rows)?;
-    Ok(out)
+impl report::Row for Row {
+    ghost heading = { heading };
+
+    ghost text = { row_shown };
+
+    ghost shows = { λ x. refl };
+
+    fn heading() -> &'static str {
+        "processor,level,sets,ways,references,hits,drops,cold,lost,replaced"
+    }
 }

@@ -1,26 +1,28 @@
-ghost use Rattle.std.specs.Prelude.{◌≡◌, true, Some, None};
-ghost use Rattle.sheets.specs.Settings.{settings_of};
-ghost use Rattle.tables.specs.Calls.{unlimited};
+ghost use Rattle.std.specs.Prelude.{◌≡◌, ◌*◌, ◌^◌, ◌≤◌, Ok, Err};
+ghost use Rattle.sheets.specs.Settings.{SettingsFrom};
 
 use super::Sizes;
 use tables::Settings;
+use trace::Refusal;
 
-// The settings of a study of these sizes; none where a size is outside its limits before the entries can be told.
-pub(super) fn settings_of(sizes: Sizes) -> Option<Settings>
-    ensures { elim result [ Some s ↦ s ≡ settings_of sizes | None ↦ unlimited (settings_of sizes) ≡ true ] }
-{
-    if sizes.levels > 17 {
-        return None;
+// The settings of a study of these sizes; entries that are too many to tell are too many for any study.
+impl TryFrom<Sizes> for Settings {
+    type Error = Refusal;
+
+    ghost try_from_gives = { SettingsFrom };
+
+    fn try_from(sizes: Sizes) -> Result<Settings, Refusal> {
+        let entries = sizes
+            .levels
+            .checked_mul(sizes.blocks)
+            .ok_or(Refusal::Setting)?;
+        Ok(Settings {
+            processors: sizes.processors,
+            shift: sizes.shift,
+            levels: sizes.levels,
+            ways: sizes.ways,
+            blocks: sizes.blocks,
+            entries,
+        })
     }
-    if sizes.blocks > 4096 {
-        return None;
-    }
-    Some(Settings {
-        processors: sizes.processors,
-        shift: sizes.shift,
-        levels: sizes.levels,
-        ways: sizes.ways,
-        blocks: sizes.blocks,
-        entries: sizes.levels * sizes.blocks,
-    })
 }

@@ -6,16 +6,17 @@ ghost use Rattle.sheets.specs.Steps.{lists_of};
 ghost use Rattle.sheets.specs.Studies.{HasAccepted, PutThrough};
 ghost use Rattle.tables.specs.Calls.{set_up_refusal};
 
-use super::faults::{Faults, refused_lines};
+use super::faults::Faults;
+use super::lending::feed_all_on;
 use super::owned::OwnTables;
 use super::owning::SheetStudy;
-use super::rows::list_rows;
-use super::settings::settings_of;
+use super::rows::ClosedSheet;
 use super::{Row, Sizes};
 use report::RefusedLine;
 use setmap::SetMap;
 use std::alloc::{AllocError, Global};
 use study::OpenStudy;
+use tables::{SeenTables, Settings};
 use trace::{Refusal, Source};
 
 impl<M: SetMap + Copy> SheetStudy<M> {
@@ -23,26 +24,22 @@ impl<M: SetMap + Copy> SheetStudy<M> {
     pub fn set_up(map: M, sizes: Sizes, mut tables: OwnTables) -> Result<SheetStudy<M>, Refusal>
         ensures { elim result [ Ok x ↦ (set_up_refusal (M.meaning map) (settings_of sizes) (lists_of tables) ≡ None) × (x.map ≡ map) × (x.settings ≡ settings_of sizes) × HasAccepted (M.meaning map) x [] | Err y ↦ set_up_refusal (M.meaning map) (settings_of sizes) (lists_of tables) ≡ Some y ] }
     {
-        let Some(settings) = settings_of(sizes) else {
-            return Err(Refusal::Setting);
-        };
-        let made = OpenStudy::set_up(
+        let settings = Settings::try_from(sizes)?;
+        let study = OpenStudy::set_up(
             map,
             settings,
             tables.entries.as_mut_slice(),
             tables.known.as_slice(),
             tables.marks.as_mut_slice(),
             tables.counters.as_mut_slice(),
-        );
-        match made {
-            Err(refused) => Err(refused.refusal),
-            Ok(study) => Ok(SheetStudy {
-                map,
-                settings,
-                study,
-                tables,
-            }),
-        }
+        )
+        .map_err(|refused| refused.refusal)?;
+        Ok(SheetStudy {
+            map,
+            settings,
+            study,
+            tables,
+        })
     }
 
     // Puts a source to the study, to its end, and gives its refused items by their numbers. Only want of memory is an error.
@@ -56,10 +53,9 @@ impl<M: SetMap + Copy> SheetStudy<M> {
         ensures settings { self.new.settings ≡ self.old.settings }
         ensures answered { OnOk result (S.answered source.new ≡ S.answered source.old + length (S.items source.old)) }
     {
-        let mut faults = Faults {
-            list: Vec::new(heap),
-        };
-        let fed = self.study.feed_all(
+        let mut faults = Faults::none(heap);
+        let fed = feed_all_on(
+            &mut self.study,
             source,
             self.tables.entries.as_mut_slice(),
             self.tables.known.as_mut_slice(),
@@ -67,10 +63,9 @@ impl<M: SetMap + Copy> SheetStudy<M> {
             self.tables.counters.as_mut_slice(),
             &mut faults,
         );
-        match fed {
-            Ok(()) => refused_lines(heap, faults.list.as_slice()),
-            Err(_) => Err(AllocError),
-        }
+        // A sink hands a fault back for want of memory alone, and has no other error to give.
+        fed.map_err(|_| AllocError)?;
+        faults.lines(heap)
     }
 
     // Closes the study, and gives a row for each processor, level and number of ways. Only want of memory is an error.
@@ -83,16 +78,17 @@ impl<M: SetMap + Copy> SheetStudy<M> {
             study,
             tables,
         } = self;
-        let closed = study.close();
-        list_rows(
-            heap,
-            &closed,
-            &map,
+        let sheet = ClosedSheet {
+            map,
             settings,
-            tables.entries.as_slice(),
-            tables.known.as_slice(),
-            tables.marks.as_slice(),
-            tables.counters.as_slice(),
-        )
+            study: study.close(),
+            tables: SeenTables {
+                entries: tables.entries.as_slice(),
+                known: tables.known.as_slice(),
+                marks: tables.marks.as_slice(),
+                counters: tables.counters.as_slice(),
+            },
+        };
+        sheet.rows(heap)
     }
 }

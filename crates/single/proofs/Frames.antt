@@ -1,10 +1,13 @@
 -- One set's frames: where a block stands in them, and what bringing it to the front and closing the gap make of their list.
-use Rattle.std.proofs.Common.{◌≡◌, ℕ, suc, ◌+◌, ◌-◌, ◌<◌, ◌≤◌, max, true, false, ltb, List, [], ◌∷◌, ◌++◌, map, length, take, drop, set, replicate, Some, None, Option, sym, refl, ap, ◌∙◌, arith}
-use Rattle.std.proofs.lemmas.List.{length-map, length-append, take_at, take-map, take_all, take-set, drop-set-lt, get_or-set_same, append_assoc}
-use Rattle.std.proofs.lemmas.Bool.{both_ways, cond-true, cond-false, lt-ltb}
+use Rattle.std.proofs.Common.{◌≡◌, ℕ, suc, ◌+◌, ◌-◌, ◌<◌, ◌≤◌, min, max, Bool, true, false, cond, not, ltb, List, [], ◌∷◌, ◌++◌, map, length, take, drop, set, replicate, position, Some, None, Option, sym, refl, ap, ap₂, ◌∙◌, inl, inr, one-add, arith}
+use Rattle.std.specs.List.{position_or_len}
+use Rattle.std.specs.Option.{unwrap_or}
+use Rattle.std.proofs.lemmas.List.{length-map, length-append, take-map, take_all, take-take, take-set, drop-set-lt, get_or-set_same, append_assoc}
+use Rattle.std.proofs.lemmas.List.Sums.{prefix_len-le-length}
+use Rattle.std.proofs.lemmas.Bool.{both_ways, cases_lt, cond-true, cond-false, lt-ltb, ltb-true, ltb-false}
 use Rattle.places.specs.Moves.{fronted, closed}
-use Rattle.places.specs.Place.{place}
 use Rattle.places.proofs.Fronts.{fronted_inside}
+use Rattle.trace.specs.Items.{same}
 use Rattle.trace.specs.declared.Block.{Block}
 use Rattle.trace.proofs.Blocks.{same_equal}
 use Rattle.caches.specs.Caches.{among, without, used}
@@ -12,10 +15,28 @@ use Rattle.caches.proofs.Used.{without-less, without_absent}
 use Rattle.single.specs.Calls.{list_of, relisted, vacant, holds}
 use Rattle.single.proofs.Padded.{list_front, relisted_same}
 
-pub vacant-place : (fs : List (Option Block)) → place vacant fs ≡ length (list_of fs)
+-- the number of a first place that passes
+some_of : (b : Bool) (n i : ℕ) → Some i ≡ cond b (Some n) None → (b ≡ true) × (i ≡ n)
+some_of true n i e = (refl, (let x : i ≡ n = cc in x))
+some_of false n i e = cc
+
+none_of : (b : Bool) (n : ℕ) → None ≡ cond b (Some n) None → b ≡ false
+none_of true n e = cc
+none_of false n e = refl
+
+end_of : (b : Bool) (n l : ℕ) → (b ≡ false → n ≡ l) → unwrap_or (cond b (Some n) None) l ≡ n
+end_of true n l e = refl
+end_of false n l e = sym (e refl)
+
+vacant-place : (fs : List (Option Block)) → position_or_len vacant fs ≡ length (list_of fs)
 vacant-place [] = refl
 vacant-place (None ∷ fs) = refl
-vacant-place (Some b ∷ fs) = ap suc (vacant-place fs)
+vacant-place (Some b ∷ fs) = one-add (position_or_len vacant fs) ∙ ap suc (vacant-place fs)
+
+list_end : (fs : List (Option Block)) → unwrap_or (position vacant fs) (length fs) ≡ length (list_of fs)
+list_end fs =
+    let n = position_or_len vacant fs in
+    end_of (ltb n (length fs)) n (length fs) (λ e. omega (arith, ltb-false n (length fs) e, prefix_len-le-length (λ f. not (vacant f)) fs)) ∙ vacant-place fs
 
 take_list : (fs : List (Option Block)) → take (length (list_of fs)) fs ≡ map Some (list_of fs)
 take_list [] = refl
@@ -25,7 +46,12 @@ take_list (Some b ∷ fs) = ap (λ xs. Some b ∷ xs) (take_list fs)
 -- where q stands in a list, and what is left without it
 module _ (q : Block) where
   abbrev at : List Block → ℕ
-  at bs = place (holds q) (map Some bs)
+  at [] = 0
+  at (b ∷ bs) = cond (same b q) 0 (suc (at bs))
+
+  at_is : (bs : List Block) → position_or_len (holds q) (map Some bs) ≡ at bs
+  at_is [] = refl
+  at_is (b ∷ bs) = let ih = one-add (position_or_len (holds q) (map Some bs)) ∙ ap suc (at_is bs) in grind arith
 
   at_found : (bs : List Block) → among q bs ≡ true → at bs < length bs
   at_found [] e = absurd (both_ways false refl e)
@@ -54,98 +80,89 @@ module _ (q : Block) where
       let w : suc (at bs) + 1 ≡ suc (at bs + 1) = omega arith in
       grind arith
 
-  module _ (fs : List (Option Block)) (end place_of : ℕ) (e : end ≡ place vacant fs) (k : place_of ≡ place (holds q) (take (end - 0) fs)) where
+  module _ (fs : List (Option Block)) (end : ℕ) (empty : Option ℕ) (first : empty ≡ position vacant fs) (e : end ≡ unwrap_or empty (length fs)) where
     abbrev L : List Block
     L = list_of fs
 
-    pub end_is : end ≡ length L
-    end_is = e ∙ vacant-place fs
+    end_is : end ≡ length L
+    end_is = e ∙ ap (λ x. unwrap_or x (length fs)) first ∙ list_end fs
 
-    front_is : take (end - 0) fs ≡ map Some L
-    front_is = let z : end - 0 ≡ length L = omega (arith, end_is) in ap (λ n. take n fs) z ∙ take_list fs
-
-    place_is : place_of ≡ at L
-    place_is = k ∙ ap (place (holds q)) front_is
-
-    pub is_listed : place_of < end → true ≡ among q L
-    is_listed l = grind (arith, at_absent L, place_is, end_is)
-
-    pub not_listed : end ≤ place_of → false ≡ among q L
-    not_listed l = grind (arith, at_found L, place_is, end_is)
-
-    -- ---- an own reference
+    front_is : take end fs ≡ map Some L
+    front_is = ap (λ n. take n fs) end_is ∙ take_list fs
 
     whole : map Some L ++ drop (length L) fs ≡ fs
     whole = list_front fs
 
-    pub touched-hit : (n : ℕ) → place_of < end → fronted place_of fs ≡ relisted (used n q L) fs
-    touched-hit n l =
-        let m = sym (is_listed l) in
-        let R = drop (length L) fs in
-        let c : suc (length (without q L)) ≡ length L = without-less q L m in
-        let z : length L - suc (length (without q L)) ≡ 0 = omega arith in
-        let x : max (suc (length (without q L))) (length L) ≡ length L = omega arith in
-        ap (λ i. fronted i fs) place_is ∙ ap (fronted (at L)) (sym whole)
-        ∙ ap (λ xs. xs ++ (take (at L) (map Some L ++ R) ++ drop 1 (drop (at L) (map Some L ++ R)))) (taken_out L R m)
-        ∙ ap (λ xs. Some q ∷ xs) (left_over L R m)
-        ∙ ap (λ i. map Some (q ∷ without q L) ++ drop i fs) (sym x)
-        ∙ ap (λ i. map Some (q ∷ without q L) ++ (replicate i None ++ drop (max (suc (length (without q L))) (length L)) fs)) (sym z)
-        ∙ ap (λ bs. relisted bs fs) (sym (cond-true (among q L) (q ∷ without q L) (take n (q ∷ L)) m))
+    relisted_is : (bs : List Block) (k m : ℕ) → length L - length bs ≡ k → max (length bs) (length L) ≡ m → map Some bs ++ (replicate k None ++ drop m fs) ≡ relisted bs fs
+    relisted_is bs k m a b = ap₂ (λ i j. map Some bs ++ (replicate i None ++ drop j fs)) (sym a) (sym b)
 
-    -- the frame that a new block takes
-    new_front : (i : ℕ) → i < length fs → fronted i (set fs i (Some q)) ≡ Some q ∷ (take i fs ++ drop (i + 1) fs)
-    new_front i l =
-        fronted_inside (set fs i (Some q)) i (Some q) (omega (arith, lib.ListN.length-set fs i (Some q))) (sym (get_or-set_same fs i (Some q) (Some q) l))
-        ∙ ap (λ xs. Some q ∷ (xs ++ drop (i + 1) (set fs i (Some q)))) (take-set fs i (Some q))
-        ∙ ap (λ xs. Some q ∷ (take i fs ++ xs)) (drop-set-lt (i + 1) fs i (Some q) (omega arith))
+    -- ---- the block is found
 
-    pub touched_free : end ≤ place_of → end < length fs → fronted end (set fs end (Some q)) ≡ relisted (used (length fs) q L) fs
-    touched_free l r =
-        let m = sym (not_listed l) in
-        let n = length L in
-        let z : n - suc n ≡ 0 = omega arith in
-        let x : max (suc n) n ≡ n + 1 = omega arith in
-        new_front end r ∙ ap (λ i. Some q ∷ (take i fs ++ drop (i + 1) fs)) end_is
-        ∙ ap (λ xs. Some q ∷ (xs ++ drop (n + 1) fs)) (take_list fs)
-        ∙ ap (λ i. map Some (q ∷ L) ++ drop i fs) (sym x)
-        ∙ ap (λ i. map Some (q ∷ L) ++ (replicate i None ++ drop (max (suc n) n) fs)) (sym z)
-        ∙ ap (λ bs. relisted bs fs) (sym (cond-false (among q L) (q ∷ without q L) (take (length fs) (q ∷ L)) m ∙ take_all (length fs) (q ∷ L) (omega (arith, end_is))))
+    module _ (place : ℕ) (k : Some place ≡ position (holds q) (take end fs)) where
+      here : (place ≡ at L) × (place < length L)
+      here =
+          let n = position_or_len (holds q) (map Some L) in
+          let x = some_of (ltb n (length (map Some L))) n place (k ∙ ap (position (holds q)) front_is) in
+          (x.1 ∙ at_is L, omega (arith, x.1, ltb-true n (length (map Some L)) x.0, length-map {B = Option Block} L Some))
 
-    full : (k : ℕ) → length fs ≡ suc k → length L ≡ suc k → among q L ≡ false → Some q ∷ (take k fs ++ drop (k + 1) fs) ≡ relisted (used (length fs) q L) fs
-    full k f g m =
-        let b : take (suc k) (q ∷ L) ≡ q ∷ take k L = refl in
-        let c : length (take k L) ≡ k = (let y = lib.ListN.length-take k L in omega arith) in
-        let z : length L - suc (length (take k L)) ≡ 0 = omega arith in
-        let x : max (suc (length (take k L))) (length L) ≡ k + 1 = omega arith in
-        let front : take k fs ≡ map Some (take k L) =
-        sym (Rattle.std.proofs.lemmas.List.take-take k (length L) fs (omega arith)) ∙ ap (take k) (take_list fs) ∙ take-map Some k L in
-        ap (λ xs. Some q ∷ (xs ++ drop (k + 1) fs)) front
-        ∙ ap (λ i. map Some (q ∷ take k L) ++ drop i fs) (sym x)
-        ∙ ap (λ i. map Some (q ∷ take k L) ++ (replicate i None ++ drop (max (suc (length (take k L))) (length L)) fs)) (sym z)
-        ∙ ap (λ bs. relisted bs fs) (sym (cond-false (among q L) (q ∷ without q L) (take (length fs) (q ∷ L)) m ∙ ap (λ i. take i (q ∷ L)) f))
+      pub is_listed : true ≡ among q L
+      is_listed = grind (arith, at_absent L, here)
 
-    pub touched-full : end ≤ place_of → length fs ≤ end → 0 < length fs → fronted (end - 1) (set fs (end - 1) (Some q)) ≡ relisted (used (length fs) q L) fs
-    touched-full l r s =
-        let within : length L ≤ length fs = (let y = ap length whole in let u = length-append (map Some L) (drop (length L) fs) in let v = length-map {B = Option Block} L Some in omega arith) in
-        let f : length fs ≡ suc (end - 1) = omega (arith, end_is) in
-        new_front (end - 1) (omega arith) ∙ full (end - 1) f (omega (arith, end_is)) (sym (not_listed l))
+      less : suc (length (without q L)) ≡ length L
+      less = without-less q L (sym is_listed)
 
-    -- ---- another's write
+      pub touched-hit : (n : ℕ) → fronted place fs ≡ relisted (used n q L) fs
+      touched-hit n =
+          let m = sym is_listed in
+          let R = drop (length L) fs in
+          ap (λ i. fronted i fs) here.0 ∙ ap (fronted (at L)) (sym whole)
+          ∙ ap (λ xs. xs ++ (take (at L) (map Some L ++ R) ++ drop 1 (drop (at L) (map Some L ++ R)))) (taken_out L R m)
+          ∙ ap (λ xs. Some q ∷ xs) (left_over L R m)
+          ∙ relisted_is (q ∷ without q L) 0 (length L) (omega (arith, less)) (omega (arith, less))
+          ∙ ap (λ bs. relisted bs fs) (sym (cond-true (among q L) (q ∷ without q L) (take n (q ∷ L)) m))
 
-    pub lost_found : place_of < end → closed place_of None (take (end - 0) fs) ++ drop (end - 0) fs ≡ relisted (without q L) fs
-    lost_found l =
-        let m = sym (is_listed l) in
-        let c : suc (length (without q L)) ≡ length L = without-less q L m in
-        let z : length L - length (without q L) ≡ 1 = omega arith in
-        let x : max (length (without q L)) (length L) ≡ end - 0 = omega (arith, end_is) in
-        let X = map Some L in
-        let t : ltb (at L) (length X) ≡ true = lt-ltb (at L) (length X) (omega (arith, at_found L m, length-map {B = Option Block} L Some)) in
-        ap (λ i. closed i None (take (end - 0) fs) ++ drop (end - 0) fs) place_is
-        ∙ ap (λ xs. closed (at L) None xs ++ drop (end - 0) fs) front_is
-        ∙ ap (λ xs. xs ++ drop (end - 0) fs) (cond-true (ltb (at L) (length X)) (take (at L) X ++ (drop (at L + 1) X ++ (None ∷ []))) X t ∙ left_closed L m)
-        ∙ append_assoc (map Some (without q L)) (None ∷ []) (drop (end - 0) fs)
-        ∙ ap (λ i. map Some (without q L) ++ (None ∷ drop i fs)) (sym x)
-        ∙ ap (λ i. map Some (without q L) ++ (replicate i None ++ drop (max (length (without q L)) (length L)) fs)) (sym z)
+      pub lost_found : closed place None (take end fs) ++ drop end fs ≡ relisted (without q L) fs
+      lost_found =
+          let X = map Some L in
+          let t : ltb (at L) (length X) ≡ true = lt-ltb (at L) (length X) (omega (arith, here.0, here.1, length-map {B = Option Block} L Some)) in
+          ap₂ (λ i xs. closed i None xs ++ drop end fs) here.0 front_is
+          ∙ ap (λ xs. xs ++ drop end fs) (cond-true (ltb (at L) (length X)) (take (at L) X ++ (drop (at L + 1) X ++ (None ∷ []))) X t ∙ left_closed L (sym is_listed))
+          ∙ append_assoc (map Some (without q L)) (None ∷ []) (drop end fs)
+          ∙ relisted_is (without q L) 1 end (omega (arith, less)) (omega (arith, less, end_is))
 
-    pub lost_absent : end ≤ place_of → fs ≡ relisted (without q L) fs
-    lost_absent l = sym (ap (λ bs. relisted bs fs) (without_absent q L (sym (not_listed l))) ∙ relisted_same fs)
+    -- ---- the block is not found
+
+    module _ (k : None ≡ position (holds q) (take end fs)) where
+      pub not_listed : false ≡ among q L
+      not_listed =
+          let n = position_or_len (holds q) (map Some L) in
+          let f = none_of (ltb n (length (map Some L))) n (k ∙ ap (position (holds q)) front_is) in
+          let h : length L ≤ at L = omega (arith, ltb-false n (length (map Some L)) f, length-map {B = Option Block} L Some, at_is L) in
+          grind (arith, at_found L)
+
+      -- the frame that a new block takes
+      new_front : (i : ℕ) → i < length fs → fronted i (set fs i (Some q)) ≡ Some q ∷ (take i fs ++ drop (i + 1) fs)
+      new_front i l =
+          fronted_inside (set fs i (Some q)) i (Some q) (omega (arith, lib.ListN.length-set fs i (Some q))) (sym (get_or-set_same fs i (Some q) (Some q) l))
+          ∙ ap (λ xs. Some q ∷ (xs ++ drop (i + 1) (set fs i (Some q)))) (take-set fs i (Some q))
+          ∙ ap (λ xs. Some q ∷ (take i fs ++ xs)) (drop-set-lt (i + 1) fs i (Some q) (omega arith))
+
+      pub touched_new : (place : ℕ) → place ≡ min end (length fs - 1) → 0 < length fs → fronted place (set fs place (Some q)) ≡ relisted (used (length fs) q L) fs
+      touched_new place e s =
+          let w = length fs - 1 in
+          let full : length fs ≡ suc w = omega arith in
+          let within : length L ≤ length fs = omega (arith, ap length whole, length-append (map Some L) (drop (length L) fs), length-map {B = Option Block} L Some) in
+          let cut : take place L ≡ take w L =
+          elim (cases_lt w (length L)) [
+            | inl l ↦ ap (λ i. take i L) (omega (arith, end_is))
+            | inr l ↦ take_all place L (omega (arith, end_is)) ∙ sym (take_all w L (omega arith))
+          ] in
+          let front : take place fs ≡ map Some (take w L) =
+          sym (take-take place (length L) fs (omega (arith, end_is))) ∙ ap (take place) (take_list fs) ∙ take-map Some place L ∙ ap (map Some) cut in
+          let n : length (take w L) ≡ place = omega (arith, end_is, lib.ListN.length-take w L) in
+          new_front place (omega arith) ∙ ap (λ xs. Some q ∷ (xs ++ drop (place + 1) fs)) front
+          ∙ relisted_is (q ∷ take w L) 0 (place + 1) (omega (arith, end_is)) (omega (arith, end_is))
+          ∙ ap (λ bs. relisted bs fs) (sym (cond-false (among q L) (q ∷ without q L) (take (length fs) (q ∷ L)) (sym not_listed) ∙ ap (λ i. take i (q ∷ L)) full))
+
+      pub lost_absent : fs ≡ relisted (without q L) fs
+      lost_absent = sym (ap (λ bs. relisted bs fs) (without_absent q L (sym not_listed)) ∙ relisted_same fs)

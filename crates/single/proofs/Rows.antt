@@ -1,5 +1,5 @@
 -- One processor's caches after a history, and what each kind of access makes of them.
-use Rattle.std.proofs.Common.{◌≡◌, ℕ, ◌+◌, ◌-◌, ◌^◌, ◌<◌, ◌≤◌, Bool, true, false, cond, not, ◌&&◌, List, ◌∷◌, length, get_or, Option, sym, refl, ap, ◌∙◌, inl, inr, arith}
+use Rattle.std.proofs.Common.{◌≡◌, ℕ, ◌+◌, ◌-◌, ◌^◌, ◌<◌, ◌≤◌, Bool, true, false, cond, ◌&&◌, List, ◌∷◌, length, get_or, Option, sym, refl, ap, ◌∙◌, inl, inr, arith}
 use Rattle.std.proofs.lemmas.Bool.{cases_eq}
 use Rattle.places.specs.Parts.{part, put, start, more}
 use Rattle.places.proofs.Portions.{part_in, length_more, more_at, more_out}
@@ -39,35 +39,6 @@ row_kept m s p h t u k r =
       hits = k.counters 1 (omega arith) ∙ r.hits;
       drops = k.counters 2 (omega arith) ∙ r.drops;
     }
-
--- one more in a tally, by whether the access is own or another's write
-one_if_own : (o t : Bool) → o ≡ true → ◌≡◌ {A = ℕ} (cond (o && t) 1 0) (cond t 1 0)
-one_if_own true t e = refl
-one_if_own false t e = grind arith
-
-none_if_own : (o w t : Bool) → o ≡ true → ◌≡◌ {A = ℕ} (cond ((not o && w) && t) 1 0) 0
-none_if_own true w t e = refl
-none_if_own false w t e = grind arith
-
-none_if_not : (o t : Bool) → o ≡ false → ◌≡◌ {A = ℕ} (cond (o && t) 1 0) 0
-none_if_not false t e = refl
-none_if_not true t e = grind arith
-
-one_if_write : (o w t : Bool) → o ≡ false → w ≡ true → ◌≡◌ {A = ℕ} (cond ((not o && w) && t) 1 0) (cond t 1 0)
-one_if_write false true t e f = refl
-one_if_write false false t e f = grind arith
-one_if_write true w t e f = grind arith
-
-none_if_read : (o w t : Bool) → o ≡ false → w ≡ false → ◌≡◌ {A = ℕ} (cond ((not o && w) && t) 1 0) 0
-none_if_read false false t e f = refl
-none_if_read false true t e f = grind arith
-none_if_read true w t e f = grind arith
-
-one : (o : Bool) → o ≡ true → ◌≡◌ {A = ℕ} (cond o 1 0) 1
-one o e = grind arith
-
-none : (o : Bool) → o ≡ false → ◌≡◌ {A = ℕ} (cond o 1 0) 0
-none o e = grind arith
 
 module _ (m : Mapping) (s : Settings) (t : Tables) (l : Long m s t) (p : ℕ) (lo : 1 ≤ p) (hi : p ≤ s.processors) (a : Access) (here : set_of m s a.block < m.sets (level_in m s)) where
   abbrev i : ℕ
@@ -149,13 +120,13 @@ module _ (m : Mapping) (s : Settings) (t : Tables) (l : Long m s t) (p : ℕ) (l
           references =
               more_if_out hit (hits_at p) (references_at p) c₁ (λ x. omega arith)
               ∙ more_at (references_at p) c (omega (arith, counters_in)) (omega (arith, r.references, tally-short (λ b _. own p b) h))
-              ∙ omega (arith, r.references, one (own p a) o);
+              ∙ rw o (omega (arith, r.references));
           hits =
               more_if_at hit (hits_at p) c₁ (omega (arith, counters_in)) (omega (arith, r.hits, tally-short (λ b before. own p b && holding m p i s.ways b.block before) h))
-              ∙ omega (arith, r.hits, one_if_own (own p a) n o);
+              ∙ rw o (omega (arith, r.hits));
           drops =
               more_if_out hit (hits_at p) (drops_at p) c₁ (λ x. omega arith) ∙ more_out (references_at p) (drops_at p) c (λ x. omega arith)
-              ∙ omega (arith, r.drops, none_if_own (own p a) (writes a.operation) n o);
+              ∙ rw o (omega (arith, r.drops));
         }
 
     pub own_kept : (x : ℕ) → 1 ≤ x → (p ≡ x → ⊥) → Kept m s x t (own_reference m s p q t)
@@ -191,11 +162,11 @@ module _ (m : Mapping) (s : Settings) (t : Tables) (l : Long m s t) (p : ℕ) (l
         let e : ◌≡◌ {A = ℕ} (cond loss 1 0) (cond n 1 0) = ap {B = ℕ} (λ b. cond b 1 0) (listed_is h r (without q) without_fits) in
         record {
           sets = new_sets h r (without q) without_fits (a ∷ h) (listed_write m p i s.ways (set_of m s q) a h o w) (λ k x. listed_write_elsewhere m p i s.ways k a h o w x);
-          references = more_if_out loss (drops_at p) (references_at p) c (λ x. omega arith) ∙ omega (arith, r.references, none (own p a) o);
-          hits = more_if_out loss (drops_at p) (hits_at p) c (λ x. omega arith) ∙ omega (arith, r.hits, none_if_not (own p a) n o);
+          references = more_if_out loss (drops_at p) (references_at p) c (λ x. omega arith) ∙ rw o (omega (arith, r.references));
+          hits = more_if_out loss (drops_at p) (hits_at p) c (λ x. omega arith) ∙ rw o (omega (arith, r.hits));
           drops =
               more_if_at loss (drops_at p) c (omega (arith, counters_in)) (omega (arith, r.drops, tally-short (λ b before. others_write p b && holding m p i s.ways b.block before) h))
-              ∙ omega (arith, r.drops, one_if_write (own p a) (writes a.operation) n o w);
+              ∙ rw (o, w) (omega (arith, r.drops));
         }
 
     pub write_kept : (x : ℕ) → 1 ≤ x → (p ≡ x → ⊥) → Kept m s x t (others_write_to m s p q t)
@@ -213,10 +184,9 @@ module _ (m : Mapping) (s : Settings) (t : Tables) (l : Long m s t) (p : ℕ) (l
 pub row_read : (m : Mapping) (s : Settings) (p : ℕ) (a : Access) (h : History) (t : Tables) → Row m s p h t → own p a ≡ false → writes a.operation ≡ false → Row m s p (a ∷ h) t
 row_read m s p a h t r o w =
     let i = level_in m s in
-    let n = holding m p i s.ways a.block h in
     record {
       sets = λ k l. r.sets k l ∙ ap (padded s.ways) (sym (listed_read m p i s.ways k a h o w));
-      references = omega (arith, r.references, none (own p a) o);
-      hits = omega (arith, r.hits, none_if_not (own p a) n o);
-      drops = omega (arith, r.drops, none_if_read (own p a) (writes a.operation) n o w);
+      references = rw o (omega (arith, r.references));
+      hits = rw o (omega (arith, r.hits));
+      drops = rw (o, w) (omega (arith, r.drops));
     }

@@ -1,7 +1,7 @@
 -- The tables stand for a history: all processors' rows do. It looks only at what the cache uses, so it survives front parts.
-use Rattle.std.proofs.Common.{◌≡◌, ℕ, zero, suc, ◌+◌, ◌-◌, ◌*◌, ◌^◌, ◌<◌, ◌≤◌, true, false, cond, eqb, List, [], ◌∷◌, ◌++◌, length, get_or, take, drop, replicate, None, sym, refl, ap, ◌∙◌, subst, inl, inr, arith}
+use Rattle.std.proofs.Common.{◌≡◌, ℕ, zero, suc, ◌+◌, ◌-◌, ◌*◌, ◌^◌, ◌<◌, ◌≤◌, true, false, cond, List, [], ◌∷◌, ◌++◌, length, get_or, take, drop, replicate, None, sym, refl, ap, ◌∙◌, subst, inl, inr, arith}
 use Rattle.std.proofs.lemmas.List.{length-take, length-replicate, get_or-take, get_or_append_left, get_or-replicate, drop-replicate, take-replicate, take-append-drop}
-use Rattle.std.proofs.lemmas.Bool.{cases_eq, cases_Bool, eq-eqb, ne_eqb, cond-true, cond-false}
+use Rattle.std.proofs.lemmas.Bool.{cases_eq, cases_Bool, eq-eqb, ne_eqb}
 use Rattle.places.specs.Parts.{part, put, start}
 use Rattle.places.proofs.Portions.{part_in, part_front, part_before}
 use Rattle.setmap.specs.Mapping.{Mapping}
@@ -94,8 +94,8 @@ module _ (m : Mapping) (s : Settings) (a : Access) (h : History) (few : length h
           let u = others_write_all m s w q n own_done in
           let k = written n (omega arith) in
           elim (cases_eq (suc n) w) [
-            | inl e ↦ subst (Partly (suc n) t) (sym (cond-true (eqb (suc n) w) u (others_write_to m s (suc n) q u) (eq-eqb (suc n) w e))) (at_writer n u k e)
-            | inr e ↦ subst (Partly (suc n) t) (sym (cond-false (eqb (suc n) w) u (others_write_to m s (suc n) q u) (ne_eqb (suc n) w e))) (at_other n u b k e)
+            | inl e ↦ rw (eq-eqb (suc n) w e) (at_writer n u k e)
+            | inr e ↦ rw (ne_eqb (suc n) w e) (at_other n u b k e)
           ]
 
     pub record Applied (u : Tables) : Type 0 where
@@ -117,11 +117,7 @@ module _ (m : Mapping) (s : Settings) (a : Access) (h : History) (few : length h
 
     pub applied_stands : Applied (by_access m s a t)
     applied_stands =
-        let write_done = others_write_all m s w q s.processors own_done in
-        elim (cases_Bool (writes a.operation)) [
-          | inl e ↦ subst Applied (sym (cond-true (writes a.operation) write_done own_done e)) (after_write e)
-          | inr e ↦ subst Applied (sym (cond-false (writes a.operation) write_done own_done e)) (after_read e)
-        ]
+        elim (cases_Bool (writes a.operation)) [ inl e ↦ rw e (after_write e) | inr e ↦ rw e (after_read e) ]
 
 -- ---- front parts, and the tables that a set-up clears
 

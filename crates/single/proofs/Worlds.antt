@@ -24,14 +24,14 @@ pub record Good (m : Mapping) (s : Settings) (w : World) : Type 0 where
 -- ---- what no refusal says
 
 pub no_first : (a b c : Bool) (x y z : Refusal) → cond a (Some x) (cond b (Some y) (cond c (Some z) None)) ≡ None → (a ≡ false) × (b ≡ false) × (c ≡ false)
-no_first true b c x y z e = let k : ◌≡◌ {A = ℕ} 0 1 = cc in absurd (omega arith)
-no_first false true c x y z e = let k : ◌≡◌ {A = ℕ} 0 1 = cc in absurd (omega arith)
-no_first false false true x y z e = let k : ◌≡◌ {A = ℕ} 0 1 = cc in absurd (omega arith)
+no_first true b c x y z e = cc
+no_first false true c x y z e = cc
+no_first false false true x y z e = cc
 no_first false false false x y z e = (refl, refl, refl)
 
 no_second : (a b : Bool) (x y : Refusal) → cond a (Some x) (cond b (Some y) None) ≡ None → (a ≡ false) × (b ≡ false)
-no_second true b x y e = let k : ◌≡◌ {A = ℕ} 0 1 = cc in absurd (omega arith)
-no_second false true x y e = let k : ◌≡◌ {A = ℕ} 0 1 = cc in absurd (omega arith)
+no_second true b x y e = cc
+no_second false true x y e = cc
 no_second false false x y e = (refl, refl)
 
 pub inside : (low high n : ℕ) → outside low high n ≡ false → (low ≤ n) × (n ≤ high)
@@ -110,7 +110,7 @@ module _ (m : Mapping) (law : Lawful m) (s : Settings) where
       record { level = g.level; stands = g.stands; as_cache = (answer_is w g f p (question_refusal m s (front f w.tables) p) refl, g.as_cache) }
 
   set_up_good : (t : Tables) (x : Option Refusal) (w : World) → set_up_refusal m s t ≡ x → after_set_up s m t x ≡ Some w → Good m s w
-  set_up_good t (Some x) w e k = let z : ◌≡◌ {A = ℕ} 0 1 = cc in absurd (omega arith)
+  set_up_good t (Some x) w e k = cc
   set_up_good t None w e k =
       let x = no_first (unlimited s) (leb m.levels s.level) (short m s t) Setting Level ShortTable e in
       let y = leb-false m.levels s.level x.1 in
@@ -122,7 +122,7 @@ module _ (m : Mapping) (law : Lawful m) (s : Settings) where
   run_good t (c ∷ calls) w e = go (run m s t calls) (λ v. run_good t calls v) e
     where
       go : (x : Option World) → ((v : World) → x ≡ Some v → Good m s v) → step m s c x ≡ Some w → Good m s w
-      go None k f = let z : ◌≡◌ {A = ℕ} 0 1 = cc in absurd (omega arith)
+      go None k f = cc
       go (Some v) k f = let made : after_call m s c v ≡ w = cc in subst (Good m s) made (call_good c v (k v refl))
 
   pub as_separate : AsSeparate m s

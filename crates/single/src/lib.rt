@@ -1,16 +1,19 @@
 #![tactic(auto)]
 
-use trace::{Block, Refusal};
+use setup::Setup;
+use trace::Block;
 
 mod cache;
-mod layout;
+mod lent;
 mod limits;
 mod lists;
 mod questions;
 mod referring;
+mod setup;
 mod starting;
 
 pub use cache::SingleCache;
+pub use lent::LentTables;
 pub use starting::table_sizes;
 
 // A frame of a cache: a block, or nothing.
@@ -38,13 +41,6 @@ pub struct Tallies {
 pub struct TableSizes {
     pub frames: usize,
     pub counters: usize,
-}
-
-// A refused set-up hands the map back.
-#[derive(Drop)]
-pub struct Refused<M> {
-    pub map: M,
-    pub refusal: Refusal,
 }
 
 // What an ended cache leaves.

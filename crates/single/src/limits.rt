@@ -1,22 +1,26 @@
-ghost use Rattle.std.specs.Prelude.{◌≡◌, false};
-ghost use Rattle.single.specs.Calls.{unlimited};
+ghost use Rattle.std.specs.Prelude.{◌≡◌, OnOk};
+ghost use Rattle.single.specs.Calls.{settings_refusal};
 ghost use Rattle.single.specs.Limits.{Limited};
+ghost use Rattle.trace.specs.Refusals.{unless_refused};
 
 use super::Settings;
+use setmap::{SetMap, levels_of};
+use trace::Refusal;
 
-// Whether a setting is outside its limits.
-pub(super) fn is_unlimited(s: Settings) -> bool
-    ensures value { result ≡ unlimited s }
-    ensures limited { result ≡ false → Limited s }
+// Settings that no set-up refuses are within their limits, at a level that the map offers.
+pub(super) fn check_settings<M: SetMap>(map: &M, s: Settings) -> Result<(), Refusal>
+    ensures answer { result ≡ unless_refused (settings_refusal (M.meaning map.now) s) tt }
+    ensures limited { OnOk result (Limited s) }
 {
-    if s.processors < 1 || s.processors > 64 {
-        return true;
+    if !(1..=64).contains(&s.processors)
+        || s.shift > 12
+        || s.level > 16
+        || !(1..=16).contains(&s.ways)
+    {
+        return Err(Refusal::Setting);
     }
-    if s.shift > 12 {
-        return true;
+    if levels_of(map) <= s.level {
+        return Err(Refusal::Level);
     }
-    if s.level > 16 {
-        return true;
-    }
-    s.ways < 1 || s.ways > 16
+    Ok(())
 }

@@ -1,41 +1,23 @@
-ghost use Rattle.std.specs.Prelude.{◌≡◌, ◌<◌, length};
+ghost use Rattle.std.specs.Prelude.{◌≡◌, ◌<◌, length, take, position};
 ghost use Rattle.caches.specs.Caches.{among, without, used};
 ghost use Rattle.single.specs.Calls.{list_of, relisted, vacant, holds};
 
 use super::Frame;
-use places::{Test, bring_to_front, close_up, seek};
+use places::{bring_to_front, close_up};
 use trace::Block;
 
-// A frame with nothing in it.
-#[derive(Clone, Copy)]
-struct Vacant;
-
-impl Test<Frame> for Vacant {
-    ghost accepts = { λ _ f. vacant f };
-
-    fn passes(&self, frame: &Frame) -> bool {
-        match *frame {
-            Some(_) => false,
-            None => true,
-        }
-    }
+// The first empty frame, where the list ends.
+fn first_empty(set: &[Frame]) -> Option<usize>
+    ensures { result ≡ position vacant set.now }
+{
+    set.iter().position(|f| f.is_none())
 }
 
-// A frame with the block in it.
-#[derive(Clone, Copy)]
-struct Holding {
-    block: Block,
-}
-
-impl Test<Frame> for Holding {
-    ghost accepts = { λ t f. holds t.block f };
-
-    fn passes(&self, frame: &Frame) -> bool {
-        match *frame {
-            Some(block) => block.is(self.block),
-            None => false,
-        }
-    }
+// Where the block stands in the list.
+fn place_of(list: &[Frame], block: Block) -> Option<usize>
+    ensures { result ≡ position (holds block) list.now }
+{
+    list.iter().position(|f| *f == Some(block))
 }
 
 // An own reference to a block of the set; whether it is a hit.
@@ -44,14 +26,13 @@ pub(super) fn touch(set: &mut [Frame], block: Block) -> bool
     ensures hit { result ≡ among block (list_of set.old) }
     ensures after { set.new ≡ relisted (used (length set.old) block (list_of set.old)) set.old }
 {
-    let end = seek(set, &Vacant);
-    let place = seek(&set[0..end], &Holding { block });
-    if place < end {
+    let end = first_empty(set).unwrap_or(set.len());
+    if let Some(place) = place_of(&set[..end], block) {
         bring_to_front(set, place);
         return true;
     }
     // a new block takes the first empty frame, or else that of the last block
-    let place = if end < set.len() { end } else { end - 1 };
+    let place = end.min(set.len() - 1);
     set[place] = Some(block);
     bring_to_front(set, place);
     false
@@ -62,10 +43,9 @@ pub(super) fn lose(set: &mut [Frame], block: Block) -> bool
     ensures dropped { result ≡ among block (list_of set.old) }
     ensures after { set.new ≡ relisted (without block (list_of set.old)) set.old }
 {
-    let end = seek(set, &Vacant);
-    let place = seek(&set[0..end], &Holding { block });
-    if place < end {
-        close_up(&mut set[0..end], place, None);
+    let end = first_empty(set).unwrap_or(set.len());
+    if let Some(place) = place_of(&set[..end], block) {
+        close_up(&mut set[..end], place, None);
         return true;
     }
     false

@@ -1,125 +1,100 @@
 ghost use Rattle.std.specs.Prelude.{◌≡◌, ◌≤◌};
-ghost use Rattle.single.specs.Calls.{Outcome, tables_of, own_reference, others_write_to, others_write_all, applied, reference_refusal, referenced};
-ghost use Rattle.single.specs.Limits.{Limited, Long};
+ghost use Rattle.single.specs.Calls.{Outcome, own_reference, others_write_to, others_write_all, applied, reference_refusal, referenced};
+ghost use Rattle.single.specs.Lent.{lent, SameSlices};
+ghost use Rattle.single.specs.Limits.{Long};
+ghost use Rattle.trace.specs.Refusals.{unless_refused};
 
+use super::LentTables;
 use super::cache::SingleCache;
-use super::layout::{counters_start, is_short, set_start};
 use super::lists::{lose, touch};
-use super::{Frame, Settings};
+use super::setup::{Setup, counters_start};
 use places::bump;
 use setmap::SetMap;
 use trace::{Block, Operation, Reference, Refusal};
 
-// Processor p's own reference.
-fn refer<M: SetMap>(
-    map: &M,
-    s: Settings,
-    p: u32,
-    block: Block,
-    frames: &mut [Frame],
-    counters: &mut [u32],
-)
-    requires { (Limited s) × ((1 ≤ p) × ((p ≤ s.processors) × (Long (M.meaning map.now) s (tables_of frames.old counters.old)))) }
-    ensures { tables_of frames.new counters.new ≡ own_reference (M.meaning map.now) s p block (tables_of frames.old counters.old) }
-{
-    let at = set_start(map, s, p, block);
-    let hit = touch(&mut frames[at..at + s.ways as usize], block);
-    let first = counters_start(p);
-    bump(counters, first);
-    if hit {
-        bump(counters, first + 1);
-    }
-}
-
-// What another's write does to processor p.
-fn write_to<M: SetMap>(
-    map: &M,
-    s: Settings,
-    p: u32,
-    block: Block,
-    frames: &mut [Frame],
-    counters: &mut [u32],
-)
-    requires { (Limited s) × ((1 ≤ p) × ((p ≤ s.processors) × (Long (M.meaning map.now) s (tables_of frames.old counters.old)))) }
-    ensures { tables_of frames.new counters.new ≡ others_write_to (M.meaning map.now) s p block (tables_of frames.old counters.old) }
-{
-    let at = set_start(map, s, p, block);
-    if lose(&mut frames[at..at + s.ways as usize], block) {
-        bump(counters, counters_start(p) + 2);
-    }
-}
-
-// A write by processor w, put to all the others.
-fn write_all<M: SetMap>(
-    map: &M,
-    s: Settings,
-    w: u32,
-    block: Block,
-    frames: &mut [Frame],
-    counters: &mut [u32],
-)
-    requires { (Limited s) × (Long (M.meaning map.now) s (tables_of frames.old counters.old)) }
-    ensures { tables_of frames.new counters.new ≡ others_write_all (M.meaning map.now) s w block s.processors (tables_of frames.old counters.old) }
-{
-    for n in 0..s.processors {
-        let p = n + 1;
-        if p != w {
-            write_to(map, s, p, block, frames, counters);
+// `Long` stays asked for: a struct that lends the tables with it would have to show it anew after each write into them.
+impl<M: SetMap> Setup<M> {
+    // Processor p's own reference.
+    fn refer(&self, p: u32, block: Block, tables: &mut LentTables<'_>)
+        requires { (1 ≤ p) × ((p ≤ self.now.settings.processors) × (Long (M.meaning self.now.map) self.now.settings (lent tables.old))) }
+        ensures done { lent tables.new ≡ own_reference (M.meaning self.now.map) self.now.settings p block (lent tables.old) }
+        ensures same { SameSlices tables.old tables.new }
+    {
+        let at = self.set_start(p, block);
+        let end = at + self.settings.ways as usize;
+        let hit = touch(&mut tables.frames[at..end], block);
+        let first = counters_start(p);
+        bump(tables.counters, first);
+        if hit {
+            bump(tables.counters, first + 1);
         }
     }
-}
 
-// An accepted reference.
-fn apply<M: SetMap>(map: &M, s: Settings, r: Reference, frames: &mut [Frame], counters: &mut [u32])
-    requires { (Limited s) × ((1 ≤ r.processor) × ((r.processor ≤ s.processors) × (Long (M.meaning map.now) s (tables_of frames.old counters.old)))) }
-    ensures { tables_of frames.new counters.new ≡ applied (M.meaning map.now) s (tables_of frames.old counters.old) r }
-{
-    let block = Block::of(r.address, s.shift);
-    refer(map, s, r.processor, block, frames, counters);
-    match r.operation {
-        Operation::Read => {}
-        Operation::Write => write_all(map, s, r.processor, block, frames, counters),
-        Operation::Fetch => {}
+    // What another's write does to processor p.
+    fn write_to(&self, p: u32, block: Block, tables: &mut LentTables<'_>)
+        requires { (1 ≤ p) × ((p ≤ self.now.settings.processors) × (Long (M.meaning self.now.map) self.now.settings (lent tables.old))) }
+        ensures done { lent tables.new ≡ others_write_to (M.meaning self.now.map) self.now.settings p block (lent tables.old) }
+        ensures same { SameSlices tables.old tables.new }
+    {
+        let at = self.set_start(p, block);
+        let end = at + self.settings.ways as usize;
+        if lose(&mut tables.frames[at..end], block) {
+            bump(tables.counters, counters_start(p) + 2);
+        }
+    }
+
+    // A write by processor w, put to all the others.
+    fn write_all(&self, w: u32, block: Block, tables: &mut LentTables<'_>)
+        requires { Long (M.meaning self.now.map) self.now.settings (lent tables.old) }
+        ensures done { lent tables.new ≡ others_write_all (M.meaning self.now.map) self.now.settings w block self.now.settings.processors (lent tables.old) }
+        ensures same { SameSlices tables.old tables.new }
+    {
+        for p in 1..=self.settings.processors {
+            if p != w {
+                self.write_to(p, block, tables);
+            }
+        }
+    }
+
+    // An accepted reference.
+    fn apply(&self, r: Reference, tables: &mut LentTables<'_>)
+        requires { (1 ≤ r.processor) × ((r.processor ≤ self.now.settings.processors) × (Long (M.meaning self.now.map) self.now.settings (lent tables.old))) }
+        ensures done { lent tables.new ≡ applied (M.meaning self.now.map) self.now.settings (lent tables.old) r }
+        ensures same { SameSlices tables.old tables.new }
+    {
+        let block = Block::of(r.address, self.settings.shift);
+        self.refer(r.processor, block, tables);
+        match r.operation {
+            Operation::Read => {}
+            Operation::Write => self.write_all(r.processor, block, tables),
+            Operation::Fetch => {}
+        }
     }
 }
 
 impl<M: SetMap> SingleCache<M> {
-    // The first refusal of a reference by processor p.
-    fn refuse_reference(&self, p: u32, frames: &[Frame], counters: &[u32]) -> Option<Refusal>
-        ensures { result ≡ reference_refusal (M.meaning self.now.map) self.now.settings self.now.accepted (tables_of frames.now counters.now) p }
+    // The first refusal of a reference by processor p, if there is one.
+    fn check_reference(&self, p: u32, tables: &LentTables<'_>) -> Result<(), Refusal>
+        ensures { result ≡ unless_refused (reference_refusal (M.meaning self.now.setup.map) self.now.setup.settings self.now.accepted (lent tables.now) p) tt }
     {
-        if is_short(&self.map, self.settings, frames, counters) {
-            return Some(Refusal::ShortTable);
-        }
+        self.setup.check_tables(tables)?;
         if self.accepted == u32::MAX {
-            return Some(Refusal::References);
+            return Err(Refusal::References);
         }
-        if p < 1 || p > self.settings.processors {
-            return Some(Refusal::Processor);
-        }
-        None
+        self.setup.check_processor(p)
     }
 
     // A reference, which is accepted or leaves everything as it was.
-    pub fn reference(
-        &mut self,
-        r: Reference,
-        frames: &mut [Frame],
-        counters: &mut [u32],
-    ) -> Result<(), Refusal>
-        ensures answer { result ≡ (referenced (M.meaning self.old.map) self.old.settings self.old.accepted (tables_of frames.old counters.old) r).answer }
-        ensures accepted { self.new.accepted ≡ (referenced (M.meaning self.old.map) self.old.settings self.old.accepted (tables_of frames.old counters.old) r).accepted }
-        ensures tables { tables_of frames.new counters.new ≡ (referenced (M.meaning self.old.map) self.old.settings self.old.accepted (tables_of frames.old counters.old) r).tables }
-        ensures map { self.new.map ≡ self.old.map }
-        ensures settings { self.new.settings ≡ self.old.settings }
+    pub fn reference(&mut self, r: Reference, tables: &mut LentTables<'_>) -> Result<(), Refusal>
+        ensures answer { result ≡ (referenced (M.meaning self.old.setup.map) self.old.setup.settings self.old.accepted (lent tables.old) r).answer }
+        ensures accepted { self.new.accepted ≡ (referenced (M.meaning self.old.setup.map) self.old.setup.settings self.old.accepted (lent tables.old) r).accepted }
+        ensures tables { lent tables.new ≡ (referenced (M.meaning self.old.setup.map) self.old.setup.settings self.old.accepted (lent tables.old) r).tables }
+        ensures same { SameSlices tables.old tables.new }
+        ensures setup { self.new.setup ≡ self.old.setup }
     {
-        match self.refuse_reference(r.processor, frames, counters) {
-            Some(refusal) => Err(refusal),
-            None => {
-                apply(&self.map, self.settings, r, frames, counters);
-                self.accepted += 1;
-                Ok(())
-            }
-        }
+        self.check_reference(r.processor, tables)?;
+        self.setup.apply(r, tables);
+        self.accepted += 1;
+        Ok(())
     }
 }

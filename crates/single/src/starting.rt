@@ -1,26 +1,21 @@
 ghost use Rattle.std.specs.Prelude.{◌≡◌, Some, None, Ok, Err};
-ghost use Rattle.single.specs.Calls.{tables_of, cleared, set_up_refusal, sized};
-ghost use Rattle.single.specs.Limits.{Limited, Long};
+ghost use Rattle.single.specs.Calls.{cleared, set_up_refusal, sized};
+ghost use Rattle.single.specs.Lent.{lent, SameSlices};
+ghost use Rattle.single.specs.Limits.{Long};
 ghost use Rattle.single.specs.Runs.{AsSeparate};
 
 use super::cache::SingleCache;
-use super::layout::{cache_frames, is_short};
-use super::limits::is_unlimited;
-use super::{Frame, Refused, Settings, TableSizes};
-use places::fill;
-use setmap::{SetMap, levels_of};
-use trace::Refusal;
+use super::limits::check_settings;
+use super::setup::{Setup, cache_frames};
+use super::{LentTables, Settings, TableSizes};
+use setmap::SetMap;
+use trace::{Refusal, Refused};
 
 // The sizes of the tables to lend, or why a set-up would refuse the settings whatever the tables.
 pub fn table_sizes<M: SetMap>(map: &M, s: Settings) -> Result<TableSizes, Refusal>
     ensures { result ≡ sized (M.meaning map.now) s }
 {
-    if is_unlimited(s) {
-        return Err(Refusal::Setting);
-    }
-    if levels_of(map) <= s.level {
-        return Err(Refusal::Level);
-    }
+    check_settings(map, s)?;
     let processors = s.processors as usize;
     Ok(TableSizes {
         frames: processors * cache_frames(map, s),
@@ -28,14 +23,16 @@ pub fn table_sizes<M: SetMap>(map: &M, s: Settings) -> Result<TableSizes, Refusa
     })
 }
 
-// Empties and zeroes what a cache uses of the tables.
-fn clear_tables<M: SetMap>(map: &M, s: Settings, frames: &mut [Frame], counters: &mut [u32])
-    requires { (Limited s) × (Long (M.meaning map.now) s (tables_of frames.old counters.old)) }
-    ensures { tables_of frames.new counters.new ≡ cleared (M.meaning map.now) s (tables_of frames.old counters.old) }
-{
-    let processors = s.processors as usize;
-    fill(&mut frames[0..processors * cache_frames(map, s)], None);
-    fill(&mut counters[0..processors * 3], 0);
+impl<M: SetMap> Setup<M> {
+    // Empties and zeroes what a cache uses of the tables.
+    fn clear(&self, tables: &mut LentTables<'_>)
+        requires { Long (M.meaning self.now.map) self.now.settings (lent tables.old) }
+        ensures done { lent tables.new ≡ cleared (M.meaning self.now.map) self.now.settings (lent tables.old) }
+        ensures same { SameSlices tables.old tables.new }
+    {
+        tables.frames[0..self.frames_needed()].fill(None);
+        tables.counters[0..self.counters_needed()].fill(0);
+    }
 }
 
 impl<M: SetMap> SingleCache<M> {
@@ -43,49 +40,18 @@ impl<M: SetMap> SingleCache<M> {
     pub fn set_up(
         map: M,
         s: Settings,
-        frames: &mut [Frame],
-        counters: &mut [u32],
+        tables: &mut LentTables<'_>,
     ) -> Result<SingleCache<M>, Refused<M>>
-        ensures answer { elim result [ Ok o ↦ (set_up_refusal (M.meaning map) s (tables_of frames.old counters.old) ≡ None) × (o.map ≡ map) × (o.settings ≡ s) × (o.accepted ≡ 0) | Err x ↦ (set_up_refusal (M.meaning map) s (tables_of frames.old counters.old) ≡ Some x.refusal) × (x.map ≡ map) ] }
-        ensures tables { tables_of frames.new counters.new ≡ elim result [ Ok o ↦ cleared (M.meaning map) s (tables_of frames.old counters.old) | Err x ↦ tables_of frames.old counters.old ] }
+        ensures answer { elim result [ Ok o ↦ (set_up_refusal (M.meaning map) s (lent tables.old) ≡ None) × (o.setup.map ≡ map) × (o.setup.settings ≡ s) × (o.accepted ≡ 0) | Err x ↦ (set_up_refusal (M.meaning map) s (lent tables.old) ≡ Some x.refusal) × (x.map ≡ map) ] }
+        ensures tables { lent tables.new ≡ elim result [ Ok o ↦ cleared (M.meaning map) s (lent tables.old) | Err x ↦ lent tables.old ] }
+        ensures same { SameSlices tables.old tables.new }
         ensures faithful { AsSeparate (M.meaning map) s }
     {
-        SingleCache::start(map, s, frames, counters)
-    }
-
-    // The set-up itself; every list of calls after it is what `set_up` promises besides.
-    fn start(
-        map: M,
-        s: Settings,
-        frames: &mut [Frame],
-        counters: &mut [u32],
-    ) -> Result<SingleCache<M>, Refused<M>>
-        ensures answer { elim result [ Ok o ↦ (set_up_refusal (M.meaning map) s (tables_of frames.old counters.old) ≡ None) × (o.map ≡ map) × (o.settings ≡ s) × (o.accepted ≡ 0) | Err x ↦ (set_up_refusal (M.meaning map) s (tables_of frames.old counters.old) ≡ Some x.refusal) × (x.map ≡ map) ] }
-        ensures tables { tables_of frames.new counters.new ≡ elim result [ Ok o ↦ cleared (M.meaning map) s (tables_of frames.old counters.old) | Err x ↦ tables_of frames.old counters.old ] }
-    {
-        if is_unlimited(s) {
-            return Err(Refused {
-                map,
-                refusal: Refusal::Setting,
-            });
+        let setup = Setup::new(map, s)?;
+        if let Err(refusal) = setup.check_tables(tables) {
+            return Err(setup.refused(refusal));
         }
-        if levels_of(&map) <= s.level {
-            return Err(Refused {
-                map,
-                refusal: Refusal::Level,
-            });
-        }
-        if is_short(&map, s, frames, counters) {
-            return Err(Refused {
-                map,
-                refusal: Refusal::ShortTable,
-            });
-        }
-        clear_tables(&map, s, frames, counters);
-        Ok(SingleCache {
-            map,
-            settings: s,
-            accepted: 0,
-        })
+        setup.clear(tables);
+        Ok(SingleCache { setup, accepted: 0 })
     }
 }

@@ -1,22 +1,12 @@
 #![tactic(auto)]
 
-use report::INPUT_LIMIT;
-use spot_report::{render, spot_check};
-use std::io::Read;
-
-// The input, and one byte more than is allowed where there is more.
-fn read_input(rt: &HostRuntime) -> anyhow::Result<Vec<u8>> {
-    let mut input = Vec::new(rt.alloc());
-    rt.stdin()
-        .take(INPUT_LIMIT as u64 + 1)
-        .read_to_end(&mut input)?;
-    Ok(input)
-}
+use report::{read_input, render};
+use spot_report::spot_check;
 
 fn run(rt: &HostRuntime) -> anyhow::Result<()> {
-    let input = read_input(rt)?;
-    let report = spot_check(rt.alloc(), input.as_slice())?;
-    let text = render(rt.alloc(), &report)?;
+    let input = read_input(rt.alloc(), rt.stdin())?;
+    let answer = spot_check(rt.alloc(), input.as_slice());
+    let text = render(rt.alloc(), &answer)?;
     rt.print(text.as_str())?;
     Ok(())
 }

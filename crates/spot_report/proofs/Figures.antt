@@ -1,5 +1,5 @@
 -- The figures that a cache answers are the separate cache's, so the rows are.
-use Rattle.std.proofs.Common.{◌≡◌, ℕ, suc, ◌+◌, List, [], ◌∷◌, ◌++◌, Ok, sym, ap, ◌∙◌, subst, add-one}
+use Rattle.std.proofs.Common.{◌≡◌, ℕ, suc, ◌-◌, ◌≤◌, List, [], ◌∷◌, ◌++◌, Ok, sym, ap, ap₂, ◌∙◌, subst, arith}
 use Rattle.setmap.specs.Mapping.{Mapping}
 use Rattle.caches.specs.Caches.{History}
 use Rattle.single.specs.declared.Settings.{Settings}
@@ -17,9 +17,10 @@ module _ (m : Mapping) (s : Settings) (separate : AsSeparate m s) (t₀ : Tables
       let asked = separate t₀ (asking (all_of t) p ∷ reached.0) _ (ap (step m s (asking (all_of t) p)) reached.2) in
       subst (λ y. AsCache m s (of_question h p y)) (ap (λ u. tallied m s u p) (front_all t) ∙ e) asked.0
 
-  pub rows_more : (n p : ℕ) (x : Tallies) (v : List Row) → p ≡ n + 1 → tallied m s t p ≡ Ok x → v ≡ rows m s h n → v ++ (record { processor = p; tallies = x } ∷ []) ≡ rows m s h (n + 1)
-  rows_more n p x v d e f =
-      let q : p ≡ suc n = d ∙ add-one n in
-      ap (λ y. y ++ (record { processor = p; tallies = x } ∷ [])) f
-      ∙ ap (λ y. rows m s h n ++ (record { processor = p; tallies = y } ∷ [])) (tally_is p x e)
-      ∙ ap (λ y. rows m s h n ++ (record { processor = y; tallies = tallies m s y h } ∷ [])) q ∙ sym (ap (rows m s h) (add-one n))
+  -- a processor more
+  pub rows_more : (p : ℕ) (x : Tallies) (v : List Row) → 1 ≤ p → tallied m s t p ≡ Ok x → v ≡ rows m s h (p - 1) → v ++ (record { processor = p; tallies = x } ∷ []) ≡ rows m s h p
+  rows_more p x v some e f =
+      let q : p ≡ suc (p - 1) = omega arith in
+      ap₂ (λ y z. y ++ (record { processor = p; tallies = z } ∷ [])) f (tally_is p x e)
+      ∙ ap (λ i. rows m s h (p - 1) ++ (record { processor = i; tallies = tallies m s i h } ∷ [])) q
+      ∙ ap (rows m s h) (sym q)

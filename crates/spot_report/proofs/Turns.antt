@@ -1,72 +1,73 @@
 -- A turn of the loop that feeds a trace.
-use Rattle.std.proofs.Common.{◌≡◌, ℕ, ◌+◌, ◌-◌, ◌^◌, ◌<◌, ◌≤◌, Bool, true, false, List, [], ◌∷◌, ◌++◌, length, drop, Ok, Err, sym, ap, ◌∙◌, subst, arith}
+use Rattle.std.proofs.Common.{◌≡◌, ℕ, ◌+◌, ◌-◌, ◌^◌, ◌<◌, ◌≤◌, false, List, [], ◌∷◌, ◌++◌, length, drop, Ok, Err, Result, ap, arith}
 use Rattle.setmap.specs.Mapping.{Mapping}
 use Rattle.trace.specs.Items.{Item, reference, bad}
-use Rattle.trace.specs.Refusals.{outside}
 use Rattle.trace.specs.declared.Fault.{Fault}
 use Rattle.caches.specs.Caches.{History}
 use Rattle.single.specs.declared.Settings.{Settings}
 use Rattle.single.specs.Calls.{Tables, short}
 use Rattle.report.specs.declared.RefusedLine.{RefusedLine}
-use Rattle.spot_report.specs.declared.feeding.Fed.TheVariants.{Accepted, End}
+use Rattle.trace.specs.declared.Fed.{Fed}
+use Rattle.trace.specs.declared.Fed.TheVariants.{Accepted, End}
 use Rattle.report.specs.Refused.{refused_line}
-use Rattle.spot_report.specs.Steps.{fed_answer, fed_accepted, fed_tables, Reached}
-use Rattle.spot_report.proofs.Underway.{Underway, judged, underway_end, underway_accepted, underway_fault}
+use Rattle.spot_report.specs.Steps.{fed_answer, fed_accepted, fed_tables, Standing, FedOne, Reached}
+use Rattle.spot_report.proofs.Underway.{Underway, underway_end, underway_accepted, underway_fault}
 
 -- a feed that is not at the end took an item
-pub some_accepted : (s : Settings) (items : List Item) (n : ℕ) → Ok Accepted ≡ fed_answer s items n → length (drop 1 items) + 1 ≡ length items
-some_accepted s [] n e = let z : ◌≡◌ {A = ℕ} 0 1 = cc in absurd (omega arith)
+some_accepted : (s : Settings) (items : List Item) (n : ℕ) → Ok Accepted ≡ fed_answer s items n → length (drop 1 items) + 1 ≡ length items
+some_accepted s [] n e = cc
 some_accepted s (x ∷ items) n e = omega arith
 
--- a fault has the item's number
-pub some_fault : (s : Settings) (items : List Item) (n : ℕ) (f : Fault) → Err f ≡ fed_answer s items n → (length (drop 1 items) + 1 ≡ length items) × (f.item ≡ n)
-some_fault s [] n f e = let z : ◌≡◌ {A = ℕ} 0 1 = cc in absurd (omega arith)
-some_fault s (bad x ∷ items) n f e = (omega arith, (let same : f.item ≡ n = cc in same))
-some_fault s (reference r ∷ items) n f e = (omega arith, go (outside 1 s.processors r.processor) e)
-  where
-    go : (b : Bool) → Err f ≡ judged b n → f.item ≡ n
-    go true d = let same : f.item ≡ n = cc in same
-    go false d = let z : ◌≡◌ {A = ℕ} 0 1 = cc in absurd (omega arith)
+some_fault : (s : Settings) (items : List Item) (n : ℕ) (f : Fault) → Err f ≡ fed_answer s items n → length (drop 1 items) + 1 ≡ length items
+some_fault s [] n f e = cc
+some_fault s (x ∷ items) n f e = omega arith
 
-pub one_more : (s : Settings) (items : List Item) (k : ℕ) → fed_accepted s items k ≤ k + 1
+one_more : (s : Settings) (items : List Item) (k : ℕ) → fed_accepted s items k ≤ k + 1
 one_more s [] k = omega arith
 one_more s (bad x ∷ items) k = omega arith
 one_more s (reference r ∷ items) k = let z : k ≤ k + 1 = omega arith in grind arith
 
--- what a feed leaves, under the map and the settings that the cache has kept
-module _ (m m₁ : Mapping) (s s₁ : Settings) (em : m₁ ≡ m) (es : s₁ ≡ s) (items items' : List Item) (n n' k k' : ℕ) (t t' : Tables)
-    (ek : k' ≡ fed_accepted s₁ items k) (et : t' ≡ fed_tables m₁ s₁ items t) (ei : items' ≡ drop 1 items) (en : n' + length items' ≡ n + length items) where
-  kept_accepted : k' ≡ fed_accepted s items k
-  kept_accepted = ek ∙ ap (λ x. fed_accepted x items k) es
+-- an answer that is known, and the map and the settings that a cache has kept
+pub fed_under : {m m₁ : Mapping} {s s₁ : Settings} {b a : Standing} {r r₁ : Result Fed Fault} → m₁ ≡ m → s₁ ≡ s → r₁ ≡ r → FedOne m₁ s₁ b r₁ a → FedOne m s b r a
+fed_under em es er f = rw (em, es, er) at f
 
-  kept_tables : t' ≡ fed_tables m s items t
-  kept_tables = et ∙ ap (λ x. fed_tables x s₁ items t) em ∙ ap (λ x. fed_tables m x items t) es
+module _ (m : Mapping) (s : Settings) (b a : Standing) (t₀ : Tables) (H : History) (R refused : List RefusedLine) where
+  abbrev Before : Type 0
+  Before = Underway m s t₀ H R b.items (b.answered + 2) b.accepted b.tables refused
 
-  pub room : k + length items < 2 ^ 32 - 1 → length (drop 1 items) + 1 ≡ length items → k' + length items' < 2 ^ 32 - 1
-  room l e = omega (arith, kept_accepted, one_more s items k, ap length ei)
+  abbrev After : List RefusedLine → Type 0
+  After refused' = Underway m s t₀ H R a.items (a.answered + 2) a.accepted a.tables refused'
 
-  module _ (t₀ : Tables) (H : History) (R refused : List RefusedLine) where
-    moved : length (drop 1 items) + 1 ≡ length items → (refused' : List RefusedLine)
-        → Underway m s t₀ H R (drop 1 items) ((n + 2) + 1) (fed_accepted s items k) (fed_tables m s items t) refused' → Underway m s t₀ H R items' (n' + 2) k' t' refused'
-    moved e refused' u =
-        let line : (n + 2) + 1 ≡ n' + 2 = omega (arith, ap length ei) in
-        subst (λ x. Underway m s t₀ H R x (n' + 2) k' t' refused') (sym ei)
-        (subst (λ x. Underway m s t₀ H R (drop 1 items) (n' + 2) k' x refused') (sym kept_tables)
-        (subst (λ x. Underway m s t₀ H R (drop 1 items) (n' + 2) x (fed_tables m s items t) refused') (sym kept_accepted)
-        (subst (λ x. Underway m s t₀ H R (drop 1 items) x (fed_accepted s items k) (fed_tables m s items t) refused') line u)))
+  moved : (r : Result Fed Fault) → FedOne m s b r a → length (drop 1 b.items) + 1 ≡ length b.items → (refused' : List RefusedLine)
+      → Underway m s t₀ H R (drop 1 b.items) ((b.answered + 2) + 1) (fed_accepted s b.items b.accepted) (fed_tables m s b.items b.tables) refused' → After refused'
+  moved r f e refused' u =
+      let line : a.answered + 2 ≡ (b.answered + 2) + 1 = omega (arith, f.answered, ap length f.items) in
+      rw (line, f.items, f.tables, f.accepted) u
 
-    pub turn_accepted : short m s t ≡ false → k < 2 ^ 32 - 1 → Ok Accepted ≡ fed_answer s₁ items (n + 1) → Underway m s t₀ H R items (n + 2) k t refused → Underway m s t₀ H R items' (n' + 2) k' t' refused
-    turn_accepted long small e u =
-        let f = e ∙ ap (λ x. fed_answer x items (n + 1)) es in
-        moved (some_accepted s items (n + 1) f) refused (underway_accepted m s t₀ H R refused (n + 2) k (n + 1) t items long small f u)
+  pub turn_accepted : FedOne m s b (Ok Accepted) a → short m s b.tables ≡ false → b.accepted < 2 ^ 32 - 1 → Before → After refused
+  turn_accepted f long small u =
+      moved (Ok Accepted) f (some_accepted s b.items (b.answered + 1) f.told) refused
+      (underway_accepted m s t₀ H R refused (b.answered + 2) b.accepted (b.answered + 1) b.tables b.items long small f.told u)
 
-    pub turn_fault : (f : Fault) → Err f ≡ fed_answer s₁ items (n + 1) → Underway m s t₀ H R items (n + 2) k t refused
-        → Underway m s t₀ H R items' (n' + 2) k' t' (refused ++ (refused_line (f.item + 1) f.refusal ∷ []))
-    turn_fault f e u =
-        let d = e ∙ ap (λ x. fed_answer x items (n + 1)) es in
-        moved (some_fault s items (n + 1) f d).0 (refused ++ (refused_line (f.item + 1) f.refusal ∷ [])) (underway_fault m s t₀ H R refused (n + 2) k (n + 1) t (omega arith) items f d u)
+  pub turn_fault : (x : Fault) → FedOne m s b (Err x) a → Before → After (refused ++ (refused_line (x.item + 1) x.refusal ∷ []))
+  turn_fault x f u =
+      moved (Err x) f (some_fault s b.items (b.answered + 1) x f.told) (refused ++ (refused_line (x.item + 1) x.refusal ∷ []))
+      (underway_fault m s t₀ H R refused (b.answered + 2) b.accepted (b.answered + 1) b.tables (omega arith) b.items x f.told u)
 
-    pub turn_end : Ok End ≡ fed_answer s₁ items (n + 1) → Underway m s t₀ H R items (n + 2) k t refused → Reached m s t₀ H k' t' × (refused ≡ R)
-    turn_end e u =
-        let x = underway_end m s t₀ H R refused (n + 2) k (n + 1) t items (e ∙ ap (λ x. fed_answer x items (n + 1)) es) u in
-        (subst (λ y. Reached m s t₀ H k' y) (sym kept_tables) (subst (λ y. Reached m s t₀ H y (fed_tables m s items t)) (sym kept_accepted) x.0), x.1)
+  pub turn_end : FedOne m s b (Ok End) a → Before → Reached m s t₀ H a.accepted a.tables × (refused ≡ R)
+  turn_end f u = rw (f.tables, f.accepted) (underway_end m s t₀ H R refused (b.answered + 2) b.accepted (b.answered + 1) b.tables b.items f.told u)
+
+-- room for the items to come
+pub record Room (b : Standing) : Type 0 where
+  pub room : b.accepted + length b.items < 2 ^ 32 - 1
+  pub few : b.answered + length b.items < 2 ^ 32
+
+room_after : (m : Mapping) (s : Settings) (b a : Standing) (r : Result Fed Fault) → FedOne m s b r a → length (drop 1 b.items) + 1 ≡ length b.items → Room b → Room a
+room_after m s b a r f e l =
+    record { room = omega (arith, l.room, f.accepted, one_more s b.items b.accepted, ap length f.items); few = omega (arith, l.few, f.answered) }
+
+pub room_accepted : (m : Mapping) (s : Settings) (b a : Standing) → FedOne m s b (Ok Accepted) a → Room b → Room a
+room_accepted m s b a f = room_after m s b a (Ok Accepted) f (some_accepted s b.items (b.answered + 1) f.told)
+
+pub room_fault : (m : Mapping) (s : Settings) (b a : Standing) (x : Fault) → FedOne m s b (Err x) a → Room b → Room a
+room_fault m s b a x f = room_after m s b a (Err x) f (some_fault s b.items (b.answered + 1) x f.told)

@@ -1,11 +1,10 @@
 -- A trace on its way through the cache: what is still to come leads to the same end.
-use Rattle.std.proofs.Common.{◌≡◌, ℕ, ◌+◌, ◌-◌, ◌^◌, ◌<◌, Bool, true, false, cond, List, [], ◌∷◌, ◌++◌, length, take, drop, Some, None, Ok, Err, Option, Result, sym, refl, ap, ◌∙◌, subst, arith}
+use Rattle.std.proofs.Common.{◌≡◌, ℕ, ◌+◌, ◌-◌, ◌^◌, ◌<◌, false, List, [], ◌∷◌, ◌++◌, length, take, drop, Some, None, Ok, Err, Option, sym, ap, ◌∙◌, subst, inl, inr, arith}
 use Rattle.std.proofs.lemmas.List.{take_all, drop_all, append-nil, append_assoc}
-use Rattle.std.proofs.lemmas.Bool.{cond-true, cond-false}
+use Rattle.std.proofs.lemmas.Bool.{cases_Bool}
 use Rattle.setmap.specs.Mapping.{Mapping}
 use Rattle.trace.specs.Items.{Item, reference, bad}
 use Rattle.trace.specs.Refusals.{outside}
-use Rattle.trace.specs.declared.Block.{Block}
 use Rattle.trace.specs.declared.Fault.{Fault}
 use Rattle.trace.specs.declared.Layer.TheVariants.{Source, Study}
 use Rattle.trace.specs.declared.Reference.{Reference}
@@ -13,23 +12,20 @@ use Rattle.trace.specs.declared.Refusal.{Refusal}
 use Rattle.trace.specs.declared.Refusal.TheVariants.{Processor}
 use Rattle.caches.specs.Caches.{History}
 use Rattle.single.specs.declared.Settings.{Settings}
-use Rattle.single.specs.Calls.{Tables, tables_of, short, applied, reference_refusal, Outcome, outcome}
+use Rattle.single.specs.declared.lent.LentTables.{LentTables}
+use Rattle.single.specs.Lent.{lent, SameSlices}
+use Rattle.single.specs.Calls.{Tables, short, applied, reference_refusal, Outcome, outcome}
 use Rattle.single.specs.Runs.{Fronts, front, behind, referring, Said, of_reference, World, access, remembered, step}
 use Rattle.report.specs.declared.RefusedLine.{RefusedLine}
-use Rattle.spot_report.specs.declared.feeding.Fed.{Fed}
-use Rattle.spot_report.specs.declared.feeding.Fed.TheVariants.{Accepted, End}
-use Rattle.report.specs.Refused.{refused_too, refused_line}
+use Rattle.trace.specs.declared.Fed.TheVariants.{Accepted, End}
+use Rattle.report.specs.Refused.{refused_line}
 use Rattle.spot_report.specs.Spot.{reading}
 use Rattle.spot_report.specs.Steps.{fed_answer, fed_accepted, fed_tables, Reached}
 use Rattle.spot_report.proofs.Feeds.{only_processor}
 
 -- whether tables are short tells by their lengths alone
-pub short_same : (m : Mapping) (s : Settings) (fs gs : List (Option Block)) (cs ds : List ℕ) → length gs ≡ length fs → length ds ≡ length cs → short m s (tables_of fs cs) ≡ false → short m s (tables_of gs ds) ≡ false
-short_same m s fs gs cs ds e f l = rw (e, f) l
-
--- the answer to a reference, by whether its processor is outside
-abbrev pub judged : Bool → ℕ → Result Fed Fault
-judged b n = cond b (Err (record { refusal = Processor; item = n; layer = Study })) (Ok Accepted)
+pub long_after : (m m₁ : Mapping) (s s₁ : Settings) (t u : LentTables) → m₁ ≡ m → s₁ ≡ s → SameSlices t u → short m s (lent t) ≡ false → short m₁ s₁ (lent u) ≡ false
+long_after m m₁ s s₁ t u em es same l = rw (em, es, same.frames_length, same.counters_length) l
 
 -- ---- a call that is passed the whole tables
 
@@ -78,29 +74,22 @@ module _ (m : Mapping) (s : Settings) (t₀ : Tables) where
     pub underway_end : (items : List Item) → Ok End ≡ fed_answer s items n → Underway H R items line k t refused
         → Reached m s t₀ H (fed_accepted s items k) (fed_tables m s items t) × (refused ≡ R)
     underway_end [] e (h, reached, to, lines) = (subst (λ x. Reached m s t₀ x k t) to reached, sym (append-nil refused) ∙ lines)
-    underway_end (bad x ∷ items) e u = let z : ◌≡◌ {A = ℕ} 0 1 = cc in absurd (omega arith)
-    underway_end (reference r ∷ items) e u = go (outside 1 s.processors r.processor) e
-      where
-        go : (b : Bool) → Ok End ≡ judged b n → Reached m s t₀ H (fed_accepted s (reference r ∷ items) k) (fed_tables m s (reference r ∷ items) t) × (refused ≡ R)
-        go true f = let z : ◌≡◌ {A = ℕ} 0 1 = cc in absurd (omega arith)
-        go false f = let z : ◌≡◌ {A = ℕ} 0 1 = cc in absurd (omega arith)
+    underway_end (bad x ∷ items) e u = cc
+    underway_end (reference r ∷ items) e u =
+        elim (cases_Bool (outside 1 s.processors r.processor)) [
+          | inl o ↦ (let f = rw o at e in absurd cc)
+          | inr o ↦ (let f = rw o at e in absurd cc)
+        ]
 
     pub underway_accepted : (items : List Item) → short m s t ≡ false → k < 2 ^ 32 - 1 → Ok Accepted ≡ fed_answer s items n → Underway H R items line k t refused
         → Underway H R (drop 1 items) (line + 1) (fed_accepted s items k) (fed_tables m s items t) refused
-    underway_accepted [] long room e u = let z : ◌≡◌ {A = ℕ} 0 1 = cc in absurd (omega arith)
-    underway_accepted (bad x ∷ items) long room e u = let z : ◌≡◌ {A = ℕ} 0 1 = cc in absurd (omega arith)
-    underway_accepted (reference r ∷ items) long room e (h, reached, to, lines) = go (outside 1 s.processors r.processor) refl e
-      where
-        go : (b : Bool) → outside 1 s.processors r.processor ≡ b → Ok Accepted ≡ judged b n
-            → Underway H R items (line + 1) (fed_accepted s (reference r ∷ items) k) (fed_tables m s (reference r ∷ items) t) refused
-        go true o f = let z : ◌≡◌ {A = ℕ} 0 1 = cc in absurd (omega arith)
-        go false o f =
-            let read : reading s line (reference r ∷ items) h ≡ reading s (line + 1) items (access s r ∷ h) = cond-false (outside 1 s.processors r.processor) _ _ o in
-            let none : reference_refusal m s k t r.processor ≡ None = only_processor m s k t r long room ∙ cond-false (outside 1 s.processors r.processor) _ _ o in
-            let more : Reached m s t₀ (access s r ∷ h) (fed_accepted s (reference r ∷ items) k) (fed_tables m s (reference r ∷ items) t) =
-            subst (λ x. Reached m s t₀ (access s r ∷ h) x (fed_tables m s (reference r ∷ items) t)) (sym (cond-false (outside 1 s.processors r.processor) k (k + 1) o))
-            (subst (λ x. Reached m s t₀ (access s r ∷ h) (k + 1) x) (sym (cond-false (outside 1 s.processors r.processor) t (applied m s t r) o)) (reached_more h k t r none reached)) in
-            (access s r ∷ h, more, sym (ap (λ x. x.history) read) ∙ to, ap (λ x. refused ++ x.refused) (sym read) ∙ lines)
+    underway_accepted [] long room e u = cc
+    underway_accepted (bad x ∷ items) long room e u = cc
+    underway_accepted (reference r ∷ items) long room e (h, reached, to, lines) =
+        elim (cases_Bool (outside 1 s.processors r.processor)) [
+          | inl o ↦ (let f = rw o at e in absurd cc)
+          | inr o ↦ (let none : reference_refusal m s k t r.processor ≡ None = only_processor m s k t r long room ∙ rw o in rw o (access s r ∷ h, reached_more h k t r none reached, rw o at to, rw o at lines))
+        ]
 
     -- a refused line more, where the line is the item's number and one
     module _ (same_line : n + 1 ≡ line) where
@@ -112,19 +101,13 @@ module _ (m : Mapping) (s : Settings) (t₀ : Tables) where
 
       pub underway_fault : (items : List Item) (f : Fault) → Err f ≡ fed_answer s items n → Underway H R items line k t refused
           → Underway H R (drop 1 items) (line + 1) (fed_accepted s items k) (fed_tables m s items t) (refused ++ (refused_line (f.item + 1) f.refusal ∷ []))
-      underway_fault [] f e u = let z : ◌≡◌ {A = ℕ} 0 1 = cc in absurd (omega arith)
+      underway_fault [] f e u = cc
       underway_fault (bad x ∷ items) f e (h, reached, to, lines) =
           let is : f ≡ record { refusal = x; item = n; layer = Source } = cc in
           (h, reached, to, one_line x f (reading s (line + 1) items h).refused (ap (λ y. y.refusal) is) (ap (λ y. y.item) is) lines)
-      underway_fault (reference r ∷ items) f e (h, reached, to, lines) = go (outside 1 s.processors r.processor) refl e
-        where
-          go : (b : Bool) → outside 1 s.processors r.processor ≡ b → Err f ≡ judged b n
-              → Underway H R items (line + 1) (fed_accepted s (reference r ∷ items) k) (fed_tables m s (reference r ∷ items) t) (refused ++ (refused_line (f.item + 1) f.refusal ∷ []))
-          go false o d = let z : ◌≡◌ {A = ℕ} 0 1 = cc in absurd (omega arith)
-          go true o d =
-              let is : f ≡ record { refusal = Processor; item = n; layer = Study } = cc in
-              let read = cond-true (outside 1 s.processors r.processor) (refused_too (refused_line line Processor) (reading s (line + 1) items h)) (reading s (line + 1) items (access s r ∷ h)) o in
-              let kept : Reached m s t₀ h (fed_accepted s (reference r ∷ items) k) (fed_tables m s (reference r ∷ items) t) =
-              subst (λ x. Reached m s t₀ h x (fed_tables m s (reference r ∷ items) t)) (sym (cond-true (outside 1 s.processors r.processor) k (k + 1) o))
-              (subst (λ x. Reached m s t₀ h k x) (sym (cond-true (outside 1 s.processors r.processor) t (applied m s t r) o)) reached) in
-              (h, kept, sym (ap (λ x. x.history) read) ∙ to, one_line Processor f (reading s (line + 1) items h).refused (ap (λ y. y.refusal) is) (ap (λ y. y.item) is) (ap (λ x. refused ++ x.refused) (sym read) ∙ lines))
+      underway_fault (reference r ∷ items) f e (h, reached, to, lines) =
+          elim (cases_Bool (outside 1 s.processors r.processor)) [
+            | inl o ↦ (let is : f ≡ record { refusal = Processor; item = n; layer = Study } = (let d = rw o at e in cc) in
+                rw o (h, reached, rw o at to, one_line Processor f (reading s (line + 1) items h).refused (ap (λ y. y.refusal) is) (ap (λ y. y.item) is) (rw o at lines)))
+            | inr o ↦ (let d = rw o at e in absurd cc)
+          ]

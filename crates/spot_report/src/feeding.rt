@@ -1,49 +1,39 @@
-ghost use Rattle.std.specs.Prelude.{◌≡◌, ◌+◌, ◌-◌, ◌^◌, ◌<◌, false, length, drop, OnOk};
-ghost use Rattle.single.specs.Calls.{tables_of, short};
+ghost use Rattle.std.specs.Prelude.{◌≡◌, ◌+◌, ◌-◌, ◌^◌, ◌<◌, false, length, OnOk};
+ghost use Rattle.single.specs.Calls.{short};
+ghost use Rattle.single.specs.Lent.{lent, SameSlices};
 ghost use Rattle.report.specs.Refused.{refused_line};
-ghost use Rattle.spot_report.specs.Steps.{fed_answer, fed_accepted, fed_tables, PutThrough};
+ghost use Rattle.spot_report.specs.Steps.{standing_of, FedOne, PutThrough};
 
 use report::RefusedLine;
 use setmap::SetMap;
-use single::{Frame, SingleCache};
+use single::{LentTables, SingleCache};
 use std::alloc::AllocError;
-use trace::{Fault, Layer, Source};
+use trace::{Fault, Fed, Layer, Source};
 
-#[derive(Clone, Copy)]
-pub enum Fed {
-    Accepted,
-    End,
-}
+// That the tables suffice stays asked for, here and in the rows: a struct that lends them with it would have to show it anew after each feed.
 
 // Puts the next item of a source to the cache.
 pub(super) fn feed<M: SetMap, S: Source>(
     cache: &mut SingleCache<M>,
     source: &mut S,
-    frames: &mut [Frame],
-    counters: &mut [u32],
+    tables: &mut LentTables<'_>,
 ) -> Result<Fed, Fault>
-    requires long { short (M.meaning cache.old.map) cache.old.settings (tables_of frames.old counters.old) ≡ false }
+    requires long { short (M.meaning cache.old.setup.map) cache.old.setup.settings (lent tables.old) ≡ false }
     requires room { cache.old.accepted < 2 ^ 32 - 1 }
-    ensures answer { result ≡ fed_answer cache.old.settings (S.items source.old) (S.answered source.old + 1) }
-    ensures accepted { cache.new.accepted ≡ fed_accepted cache.old.settings (S.items source.old) cache.old.accepted }
-    ensures tables { tables_of frames.new counters.new ≡ fed_tables (M.meaning cache.old.map) cache.old.settings (S.items source.old) (tables_of frames.old counters.old) }
-    ensures map { cache.new.map ≡ cache.old.map }
-    ensures settings { cache.new.settings ≡ cache.old.settings }
-    ensures items { S.items source.new ≡ drop 1 (S.items source.old) }
-    ensures answered { S.answered source.new + length (S.items source.new) ≡ S.answered source.old + length (S.items source.old) }
+    ensures fed { FedOne (M.meaning cache.old.setup.map) cache.old.setup.settings (standing_of (S.items source.old) (S.answered source.old) cache.old.accepted (lent tables.old)) result (standing_of (S.items source.new) (S.answered source.new) cache.new.accepted (lent tables.new)) }
+    ensures same { SameSlices tables.old tables.new }
+    ensures setup { cache.new.setup ≡ cache.old.setup }
 {
-    let next = source.next()?;
-    match next {
-        None => Ok(Fed::End),
-        Some(r) => match cache.reference(r, frames, counters) {
-            Ok(_) => Ok(Fed::Accepted),
-            Err(refusal) => Err(Fault {
-                refusal,
-                item: source.count(),
-                layer: Layer::Study,
-            }),
-        },
-    }
+    let Some(r) = source.next()? else {
+        return Ok(Fed::End);
+    };
+    let item = source.count();
+    cache.reference(r, tables).map_err(|refusal| Fault {
+        refusal,
+        item,
+        layer: Layer::Study,
+    })?;
+    Ok(Fed::Accepted)
 }
 
 // A refused item by its line: item 1 stands in line 2.
@@ -58,23 +48,20 @@ fn refused_line(fault: Fault) -> RefusedLine
 pub(super) fn feed_all<M: SetMap, S: Source>(
     cache: &mut SingleCache<M>,
     source: &mut S,
-    frames: &mut [Frame],
-    counters: &mut [u32],
+    tables: &mut LentTables<'_>,
     refused: &mut Vec<RefusedLine>,
 ) -> Result<(), AllocError>
-    requires long { short (M.meaning cache.old.map) cache.old.settings (tables_of frames.old counters.old) ≡ false }
+    requires long { short (M.meaning cache.old.setup.map) cache.old.setup.settings (lent tables.old) ≡ false }
     requires room { cache.old.accepted + length (S.items source.old) < 2 ^ 32 - 1 }
     requires few { S.answered source.old + length (S.items source.old) < 2 ^ 32 }
-    ensures through { OnOk result (PutThrough (M.meaning cache.old.map) cache.old.settings (S.items source.old) (S.answered source.old + 2) cache.old.accepted (tables_of frames.old counters.old) refused.old.items cache.new.accepted (tables_of frames.new counters.new) refused.new.items) }
-    ensures map { cache.new.map ≡ cache.old.map }
-    ensures settings { cache.new.settings ≡ cache.old.settings }
+    ensures through { OnOk result (PutThrough (M.meaning cache.old.setup.map) cache.old.setup.settings (standing_of (S.items source.old) (S.answered source.old) cache.old.accepted (lent tables.old)) refused.old.items cache.new.accepted (lent tables.new) refused.new.items) }
+    ensures same { SameSlices tables.old tables.new }
+    ensures setup { cache.new.setup ≡ cache.old.setup }
 {
     loop {
-        match feed(cache, source, frames, counters) {
-            Ok(fed) => match fed {
-                Fed::End => return Ok(()),
-                Fed::Accepted => {}
-            },
+        match feed(cache, source, tables) {
+            Ok(Fed::End) => return Ok(()),
+            Ok(Fed::Accepted) => {}
             Err(fault) => refused.push(refused_line(fault))?,
         }
     }

@@ -1,6 +1,6 @@
 #![tactic(auto)]
 
-use report::{Map, RefusedLine};
+use report::Map;
 use single::{Settings, Tallies};
 
 mod checking;
@@ -10,7 +10,6 @@ mod rows;
 mod settings;
 
 pub use checking::spot_check;
-pub use rendered::render;
 
 // What line 1 of an input says.
 #[derive(Clone, Copy)]
@@ -24,11 +23,4 @@ pub struct Chosen {
 pub struct Row {
     pub processor: u32,
     pub tallies: Tallies,
-}
-
-// The report of a spot check: a refusal alone, or the refused lines and each processor's figures.
-#[derive(Drop)]
-pub enum Report {
-    Alone(RefusedLine),
-    Whole(Vec<RefusedLine>, Vec<Row>),
 }

@@ -1,53 +1,31 @@
-ghost use Rattle.std.specs.Prelude.{◌≡◌, IfOk, string_bytes};
-ghost use Rattle.spot_report.specs.Spot.{alone, whole, row_text, text_of};
-ghost use Rattle.spot_report.specs.Steps.{content_of};
+ghost use Rattle.std.specs.Prelude.{◌≡◌, Some, refl};
+ghost use Rattle.spot_report.specs.Spot.{heading, row_shown};
 
-use super::{Report, Row};
-use rendering::{Line, push_heading, push_lines, push_numbers};
-use report::RefusedLine;
-use std::alloc::{AllocError, Global};
+use super::Row;
+use single::Tallies;
+use std::fmt;
 
-impl Line for Row {
-    ghost text = { row_text };
+impl fmt::Display for Row {
+    ghost output = { λ r. Some (row_shown r) };
 
-    fn push(&self, out: &mut String) -> Result<(), AllocError> {
-        let counted = self.tallies;
-        push_numbers(
-            out,
-            &[
-                u64::from(self.processor),
-                u64::from(counted.references),
-                u64::from(counted.hits),
-                u64::from(counted.drops),
-            ],
-        )
+    fn fmt<W: fmt::Write>(&self, f: &mut fmt::Formatter<W>) -> fmt::Result {
+        let Tallies {
+            references,
+            hits,
+            drops,
+        } = self.tallies;
+        write!(f, "{},{references},{hits},{drops}", self.processor)
     }
 }
 
-fn render_alone(heap: Global, line: &RefusedLine) -> Result<String, AllocError>
-    ensures { IfOk result (λ t. string_bytes t ≡ text_of (alone line.now)) }
-{
-    let mut out = String::new(heap);
-    line.push(&mut out)?;
-    Ok(out)
-}
+impl report::Row for Row {
+    ghost heading = { heading };
 
-fn render_whole(heap: Global, lines: &[RefusedLine], rows: &[Row]) -> Result<String, AllocError>
-    ensures { IfOk result (λ t. string_bytes t ≡ text_of (whole lines.now rows.now)) }
-{
-    let mut out = String::new(heap);
-    push_lines(&mut out, lines)?;
-    push_heading(&mut out, "processor,references,hits,drops")?;
-    push_lines(&mut out, rows)?;
-    Ok(out)
-}
+    ghost text = { row_shown };
 
-// The text of a report.
-pub fn render(heap: Global, report: &Report) -> Result<String, AllocError>
-    ensures { IfOk result (λ t. string_bytes t ≡ text_of (content_of report.now)) }
-{
-    match report {
-        Report::Alone(line) => render_alone(heap, line),
-        Report::Whole(lines, rows) => render_whole(heap, lines.as_slice(), rows.as_slice()),
+    ghost shows = { λ x. refl };
+
+    fn heading() -> &'static str {
+        "processor,references,hits,drops"
     }
 }

@@ -1,5 +1,6 @@
 -- Where a stack ends.
-use Rattle.std.proofs.Common.{◌≡◌, ℕ, ◌+◌, ◌<◌, ◌≤◌, true, false, List, [], ◌∷◌, ◌++◌, length, get_or, take, drop, sym, refl, ap, ◌∙◌, inl, inr, arith}
+use Rattle.std.proofs.Common.{◌≡◌, ℕ, ◌+◌, ◌<◌, ◌≤◌, Bool, true, false, List, [], ◌∷◌, ◌++◌, length, get_or, take, drop, sym, refl, ap, ◌∙◌, inl, inr, arith}
+use Rattle.std.specs.List.{prefix_len}
 use Rattle.std.proofs.lemmas.List.{at_drop_more, at_drop_all, drop-drop, take-append-drop}
 use Rattle.std.proofs.lemmas.Bool.{cases_lt, false≢true}
 use Rattle.trace.specs.declared.Block.{Block as MemoryBlock}
@@ -8,6 +9,17 @@ use Rattle.stack.specs.declared.Entry.{Entry}
 use Rattle.stack.specs.declared.Entry.TheVariants.{Empty, Block, Marker}
 use Rattle.stack.specs.Stack.{stack}
 use Rattle.stack.specs.Walk.{begins}
+
+abbrev pub filled : Entry → Bool
+filled Empty = false
+filled (Block b) = true
+filled (Marker b v) = true
+
+pub tall_is_prefix : (xs : List Entry) → prefix_len filled xs ≡ length (stack xs)
+tall_is_prefix [] = refl
+tall_is_prefix (Empty ∷ xs) = refl
+tall_is_prefix (Block b ∷ xs) = omega (arith, tall_is_prefix xs)
+tall_is_prefix (Marker b v ∷ xs) = omega (arith, tall_is_prefix xs)
 
 abbrev tall : List Entry → ℕ
 tall xs = length (stack xs)

@@ -1,5 +1,6 @@
 mod Walks
 mod Ends
+pub mod Stops
 mod Raises
 mod Thins
 mod Packs

@@ -1,5 +1,5 @@
 -- A block that another processor wrote.
-use Rattle.std.proofs.Common.{◌≡◌, ℕ, suc, ◌+◌, ◌-◌, Bool, true, false, cond, List, [], ◌∷◌, ◌++◌, length, drop, set, replicate, sym, refl, ap, ◌∙◌, inl, inr, arith}
+use Rattle.std.proofs.Common.{◌≡◌, ℕ, suc, ◌+◌, ◌-◌, Bool, true, false, cond, List, [], ◌∷◌, ◌++◌, length, drop, set, replicate, Ok, sym, refl, ap, ◌∙◌, inl, inr, arith}
 use Rattle.std.proofs.lemmas.List.{take-append-drop}
 use Rattle.std.proofs.lemmas.Bool.{cases_Bool}
 use Rattle.trace.specs.Items.{same}
@@ -8,7 +8,8 @@ use Rattle.levels.specs.Levels.{below}
 use Rattle.stack.specs.declared.Entry.{Entry}
 use Rattle.stack.specs.declared.Entry.TheVariants.{Empty, Block, Marker}
 use Rattle.stack.specs.Stack.{stack, is_block, dropped, restack}
-use Rattle.stack.specs.Walk.{stop, stands_in}
+use Rattle.stack.specs.Walk.{stop, stands_in, stopped}
+use Rattle.stack.proofs.Stops.{stopped_at, stopped_past}
 use Rattle.stack.proofs.Ends.{take-stack}
 
 module _ (q : MemoryBlock) where
@@ -39,12 +40,10 @@ module _ (q : MemoryBlock) where
       ∙ ap (λ i. dropped levels q (stack es) ++ drop i es) b
       ∙ lost_split levels es
 
-  pub lost_found : (levels : ℕ) (es : List Entry) (p : ℕ) (t : Bool) (e : Entry) → p ≡ stop q es → t ≡ stands_in q es → t ≡ true → e ≡ Marker q (below levels) → set es p e ≡ restack (dropped levels q (stack es)) es
-  lost_found levels es p t e ep et z ev =
-      let f : stands_in q es ≡ true = sym et ∙ z in
-      ap (λ i. set es i e) ep ∙ ap (λ x. set es (stop q es) x) ev ∙ sym (lost_is levels es ∙ rw f)
+  pub lost_found : (levels : ℕ) (es : List Entry) (place : ℕ) (e : Entry) → Ok place ≡ stopped q es → e ≡ Marker q (below levels) → set es place e ≡ restack (dropped levels q (stack es)) es
+  lost_found levels es place e h ev =
+      let s = stopped_at q es place h in
+      ap (λ i. set es i e) s.1 ∙ ap (λ x. set es (stop q es) x) ev ∙ sym (lost_is levels es ∙ rw s.0)
 
-  pub lost_absent : (levels : ℕ) (es : List Entry) (t : Bool) → t ≡ stands_in q es → t ≡ false → es ≡ restack (dropped levels q (stack es)) es
-  lost_absent levels es t et z =
-      let f : stands_in q es ≡ false = sym et ∙ z in
-      sym (lost_is levels es ∙ rw f)
+  pub lost_absent : (levels : ℕ) (es : List Entry) → ((place : ℕ) → stopped q es ≡ Ok place → ⊥) → es ≡ restack (dropped levels q (stack es)) es
+  lost_absent levels es n = sym (lost_is levels es ∙ rw (stopped_past q es n))

@@ -1,5 +1,6 @@
 -- What stands under the new top.
 use Rattle.std.proofs.Common.{◌≡◌, ℕ, suc, ◌+◌, ◌-◌, ◌<◌, ◌≤◌, max, Bool, true, false, cond, not, ◌&&◌, ltb, leb, List, [], ◌∷◌, ◌++◌, length, get_or, take, drop, set, replicate, sym, refl, ap, ◌∙◌, inl, inr, add-one, arith}
+use Rattle.std.specs.Result.{is_ok}
 use Rattle.std.proofs.lemmas.Slice.{drop-append-drop}
 use Rattle.std.proofs.lemmas.List.{length_push, append_assoc, append-nil, length-append, set_at, drop_more, take_at, drop-drop, length-take, take-append-drop}
 use Rattle.std.proofs.lemmas.Bool.{and_parts, cases_lt, cases_Bool, true≢false, false≢true, le-leb, lt-leb, lt-ltb, le-ltb}
@@ -12,10 +13,11 @@ use Rattle.stack.specs.declared.Entry.{Entry}
 use Rattle.stack.specs.declared.Entry.TheVariants.{Empty, Block, Marker}
 use Rattle.stack.specs.declared.walk.Walk.{Walk}
 use Rattle.stack.specs.Stack.{stack, marker, touched, restack}
-use Rattle.stack.specs.Walk.{stop, above, begins, stands_in, gathered, thinned, Walked}
+use Rattle.stack.specs.Walk.{stop, above, begins, stands_in, place_of, past_stop, gathered, thinned, Walked}
 use Rattle.stack.specs.Touch.{over, raised, packed, resumes}
 use Rattle.stack.proofs.Ends.{tall_le, begins-within}
 use Rattle.stack.proofs.Thins.{marker_le, thinned_same}
+use Rattle.stack.proofs.Stops.{ok_is, place_is, past_is}
 use Rattle.stack.proofs.Walks.{stays_le, stop_le, left_split}
 
 module _ (m : Mapping) (q : MemoryBlock) where
@@ -131,28 +133,27 @@ module _ (m : Mapping) (q : MemoryBlock) where
         ]
 
     module _ (w : Walk) (k : Walked m q E w) where
-      leaves : (w.found && not (is_none w.given)) ≡ (stands_in q E && not (is_none G))
-      leaves = rw (k.found_is, k.given_is)
+      leaves : (is_ok w.stop && not (is_none w.given)) ≡ (stands_in q E && not (is_none G))
+      leaves = rw (k.stop_is, ok_is q E, k.given_is)
 
-      pub packed_len : w.stays + cond (w.found && not (is_none w.given)) 1 0 ≡ length P
+      pub packed_len : w.stays + cond (is_ok w.stop && not (is_none w.given)) 1 0 ≡ length P
       packed_len =
-          let p = ap length (packed_by _ leaves) ∙ length-append T (cond (w.found && not (is_none w.given)) (Marker q G ∷ []) []) in
-          elim (cases_Bool (w.found && not (is_none w.given))) [
+          let p = ap length (packed_by _ leaves) ∙ length-append T (cond (is_ok w.stop && not (is_none w.given)) (Marker q G ∷ []) []) in
+          elim (cases_Bool (is_ok w.stop && not (is_none w.given))) [
             | inl e ↦ rw e (omega (arith, rw e at p, k.stays_is))
             | inr e ↦ rw e (omega (arith, rw e at p, k.stays_is))
           ]
 
-      pub rest_start : w.place + cond w.found 1 0 ≡ resumes q E
-      rest_start =
-          elim (cases_Bool (stands_in q E)) [
-            | inl e ↦ rw (k.found_is, e) (omega (arith, k.place_is))
-            | inr e ↦ rw (k.found_is, e) (omega (arith, k.place_is))
-          ]
+      pub rest_start : past_stop w.stop ≡ resumes q E
+      rest_start = ap past_stop k.stop_is ∙ past_is q E
 
-      pub stays_place : (w.stays ≤ w.place) × (w.place ≤ length E)
-      stays_place = (omega (arith, k.stays_is, k.place_is, stays_within), omega (arith, k.place_is, stop_le q E))
+      pub stopped_place : place_of w.stop ≡ stop q E
+      stopped_place = ap place_of k.stop_is ∙ place_is q E
 
-      module _ (t : Bool) (es : List Entry) (e : t ≡ (w.found && not (is_none w.given))) (o : es ≡ over T E) where
+      pub stays_place : (w.stays ≤ place_of w.stop) × (place_of w.stop ≤ length E)
+      stays_place = (omega (arith, k.stays_is, stays_within, stopped_place), omega (arith, stop_le q E, stopped_place))
+
+      module _ (t : Bool) (es : List Entry) (e : t ≡ (is_ok w.stop && not (is_none w.given))) (o : es ≡ over T E) where
         pub marker-within : t ≡ true → w.stays < length E
         marker-within z =
             let f : stands_in q E ≡ true = (and_parts (stands_in q E) (not (is_none G)) (sym leaves ∙ sym e ∙ z)).0 in

@@ -9,6 +9,7 @@ use Rattle.trace.specs.Items.{same}
 use Rattle.trace.specs.declared.Block.{Block as MemoryBlock}
 use Rattle.stack.specs.declared.Entry.{Entry}
 use Rattle.stack.specs.declared.Entry.TheVariants.{Empty, Block, Marker}
+use Rattle.stack.specs.declared.walk.Tally.{Tally}
 use Rattle.levels.specs.declared.Levels.{Levels}
 use Rattle.levels.specs.Levels.{has, below, both, either, less, is_none, no_level}
 use Rattle.stack.specs.Stack.{stack, counts, marker, gives, later, position, left}
@@ -80,45 +81,45 @@ module _ (m : Mapping) (q : MemoryBlock) where
       ap (λ zs. marker b (less v (gives m q g b v)) ++ zs) (thinned_append (either g (gives m q g b v)) xs ys)
       ∙ sym (append_assoc (marker b (less v (gives m q g b v))) (thinned m q (either g (gives m q g b v)) xs) (thinned m q (gathered m q (either g (gives m q g b v)) xs) ys))
 
-  pub block_step : (xs : List Entry) (bs ms : List ℕ) (g : Levels) (k r : ℕ) (b : MemoryBlock) → r ≡ min (shared m q.number b.number) 17 → Tallied m q xs bs ms g k → Tallied m q (xs ++ Block b ∷ []) (set bs r (get_or bs r 0 + 1)) ms g (k + 1)
-  block_step xs bs ms g k r b e t =
-      let w : r < length bs = omega (arith, t.wide) in
+  pub block_step : (xs : List Entry) (t : Tally) (r : ℕ) (b : MemoryBlock) → r ≡ min (shared m q.number b.number) 17 → Tallied m q xs t → Tallied m q (xs ++ Block b ∷ []) (record t { sharing = set t.sharing r (get_or t.sharing r 0 + 1); stays = t.stays + 1 })
+  block_step xs t r b e k =
+      let w : r < length t.sharing = omega (arith, k.wide) in
       record {
-        given_is = t.given_is ∙ sym (gathered_append no_level xs (Block b ∷ []));
-        stays_is = rw (thinned_append no_level xs (Block b ∷ []), length-append) (omega (arith, t.stays_is));
+        given_is = k.given_is ∙ sym (gathered_append no_level xs (Block b ∷ []));
+        stays_is = rw (thinned_append no_level xs (Block b ∷ []), length-append) (omega (arith, k.stays_is));
         counted = λ i h.
             let c = sum_by_push (λ x. cond (counts m q i x) 1 0) xs (Block b) in
-            let s = sum_from_one_more bs r i w in
+            let s = sum_from_one_more t.sharing r i w in
             let n : ltb i r ≡ ltb i (shared m q.number b.number) = ap (ltb i) e ∙ ltb-min i (shared m q.number b.number) h in
             let s' = rw n at s in
-            omega (arith, t.counted i h);
-        few = λ i h. rw (length_push xs (Block b)) (omega (arith, t.few i h, sum_one_more bs r w));
-        wide = length-set bs r _ ∙ t.wide;
-        deep = t.deep;
+            omega (arith, k.counted i h);
+        few = λ i h. rw (length_push xs (Block b)) (omega (arith, k.few i h, sum_one_more t.sharing r w));
+        wide = length-set t.sharing r _ ∙ k.wide;
+        deep = k.deep;
       }
 
-  pub marker_step : (xs : List Entry) (bs ms ns : List ℕ) (g g' counting giving : Levels) (k k' : ℕ) (b : MemoryBlock) (v : Levels)
-      → counting ≡ both v (below (shared m q.number b.number)) → giving ≡ less counting g
-      → ((i : ℕ) → i < 17 → get_or ns i 0 ≡ get_or ms i 0 + cond (has counting i) 1 0) → length ns ≡ 17
-      → k' ≡ k + length (marker b (less v giving)) → g' ≡ either g giving
-      → Tallied m q xs bs ms g k → Tallied m q (xs ++ Marker b v ∷ []) bs ns g' k'
+  pub marker_step : (xs : List Entry) (t : Tally) (ns : List ℕ) (g' counting giving : Levels) (stays : ℕ) (b : MemoryBlock) (v : Levels)
+      → counting ≡ both v (below (shared m q.number b.number)) → giving ≡ less counting t.given
+      → ((i : ℕ) → i < 17 → get_or ns i 0 ≡ get_or t.markers i 0 + cond (has counting i) 1 0) → length ns ≡ 17
+      → stays ≡ t.stays + length (marker b (less v giving)) → g' ≡ either t.given giving
+      → Tallied m q xs t → Tallied m q (xs ++ Marker b v ∷ []) (record t { markers = ns; stays = stays; given = g' })
   unfolding gives
-  marker_step xs bs ms ns g g' counting giving k k' b v ec eg en el ek eg' t =
+  marker_step xs t ns g' counting giving stays b v ec eg en el ek eg' k =
       let es = Marker b v ∷ [] in
-      let gv : giving ≡ gives m q (gathered m q no_level xs) b v = eg ∙ ap (λ x. less x g) ec ∙ ap (λ x. less (both v (below (shared m q.number b.number))) x) t.given_is in
+      let gv : giving ≡ gives m q (gathered m q no_level xs) b v = eg ∙ ap (λ x. less x t.given) ec ∙ ap (λ x. less (both v (below (shared m q.number b.number))) x) k.given_is in
       record {
-        given_is = eg' ∙ ap (λ x. either x giving) t.given_is ∙ ap (either (gathered m q no_level xs)) gv ∙ sym (gathered_append no_level xs es);
-        stays_is = rw (thinned_append no_level xs es, length-append, append-nil) (ek ∙ ap (λ x. k + length (marker b (less v x))) gv ∙ ap (λ x. x + length (marker b (less v (gives m q (gathered m q no_level xs) b v)))) t.stays_is);
+        given_is = eg' ∙ ap (λ x. either x giving) k.given_is ∙ ap (either (gathered m q no_level xs)) gv ∙ sym (gathered_append no_level xs es);
+        stays_is = rw (thinned_append no_level xs es, length-append, append-nil) (ek ∙ ap (λ x. t.stays + length (marker b (less v x))) gv ∙ ap (λ x. x + length (marker b (less v (gives m q (gathered m q no_level xs) b v)))) k.stays_is);
         counted = λ i h.
             let c = sum_by_push (λ x. cond (counts m q i x) 1 0) xs (Marker b v) in
             let l : i < 32 = omega arith in
             let n : has counting i ≡ (has v i && ltb i (shared m q.number b.number)) = ap (λ x. has x i) ec ∙ has_both v (below (shared m q.number b.number)) i ∙ ap (λ x. has v i && x) (has-below (shared m q.number b.number) i l) in
             let s = rw n at (en i h) in
-            omega (arith, t.counted i h);
+            omega (arith, k.counted i h);
         few = λ i h.
             let s : cond (has counting i) 1 0 ≤ 1 = grind arith in
-            rw (length_push xs (Marker b v)) (omega (arith, t.few i h, en i h));
-        wide = t.wide;
+            rw (length_push xs (Marker b v)) (omega (arith, k.few i h, en i h));
+        wide = k.wide;
         deep = el;
       }
 
@@ -137,22 +138,22 @@ module _ (m : Mapping) (q : MemoryBlock) where
     one_more : (e : Entry) → get_or es i Empty ≡ e → take (i + 1) es ≡ take i es ++ e ∷ []
     one_more e g = take_more es i Empty h ∙ ap (λ x. take i es ++ x ∷ []) g
 
-    pub past_block : {bs ms bs' ms' : List ℕ} {g g' : Levels} {k k' : ℕ} (r : ℕ) (b : MemoryBlock) → get_or es i Empty ≡ Block b → r ≡ min (shared m q.number b.number) 17 → bs' ≡ set bs r (get_or bs r 0 + 1) → ms' ≡ ms → g' ≡ g → k' ≡ k + 1 → Tallied m q (take i es) bs ms g k → Tallied m q (take (i + 1) es) bs' ms' g' k'
-    past_block {bs} {ms} {bs'} {ms'} {g} {g'} {k} r b is e eb em eg ek t =
+    pub past_block : {t : Tally} (r : ℕ) (b : MemoryBlock) → get_or es i Empty ≡ Block b → r ≡ min (shared m q.number b.number) 17 → Tallied m q (take i es) t → Tallied m q (take (i + 1) es) (record t { sharing = set t.sharing r (get_or t.sharing r 0 + 1); stays = t.stays + 1 })
+    past_block {t} r b is e k =
         let p = one_more (Block b) is in
-        rw (p, eb, em, eg, ek) (block_step (take i es) bs ms g k r b e t)
+        rw p (block_step (take i es) t r b e k)
 
-    pub past_marker : {bs ms bs' ms' : List ℕ} {g g' : Levels} {k k' : ℕ} (counting giving : Levels) (b : MemoryBlock) (v : Levels) → get_or es i Empty ≡ Marker b v
-        → counting ≡ both v (below (shared m q.number b.number)) → giving ≡ less counting g
-        → bs' ≡ bs → ((i : ℕ) → i < 17 → get_or ms' i 0 ≡ get_or ms i 0 + cond (has counting i) 1 0) → length ms' ≡ 17
-        → k' ≡ k + length (marker b (less v giving)) → g' ≡ either g giving
-        → Tallied m q (take i es) bs ms g k → Tallied m q (take (i + 1) es) bs' ms' g' k'
-    past_marker {bs} {ms} {bs'} {ms'} {g} {g'} {k} {k'} counting giving b v is ec eg eb en el ek eg' t =
+    pub past_marker : {t : Tally} {ns : List ℕ} {g' : Levels} {stays : ℕ} (counting giving : Levels) (b : MemoryBlock) (v : Levels) → get_or es i Empty ≡ Marker b v
+        → counting ≡ both v (below (shared m q.number b.number)) → giving ≡ less counting t.given
+        → ((i : ℕ) → i < 17 → get_or ns i 0 ≡ get_or t.markers i 0 + cond (has counting i) 1 0) → length ns ≡ 17
+        → stays ≡ t.stays + length (marker b (less v giving)) → g' ≡ either t.given giving
+        → Tallied m q (take i es) t → Tallied m q (take (i + 1) es) (record t { markers = ns; stays = stays; given = g' })
+    past_marker {t} {ns} {g'} {stays} counting giving b v is ec eg en el ek eg' k =
         let p = one_more (Marker b v) is in
-        rw (p, eb) (marker_step (take i es) bs ms ms' g g' counting giving k k' b v ec eg en el ek eg' t)
+        rw p (marker_step (take i es) t ns g' counting giving stays b v ec eg en el ek eg' k)
 
 -- what has been counted before the first entry
-pub no_tally : (m : Mapping) (q : MemoryBlock) (g : Levels) → g ≡ no_level → Tallied m q [] (replicate 18 0) (replicate 17 0) g 0
+pub no_tally : (m : Mapping) (q : MemoryBlock) (g : Levels) → g ≡ no_level → Tallied m q [] (record { sharing = replicate 18 0; markers = replicate 17 0; stays = 0; given = g })
 no_tally m q g e = record { given_is = e; stays_is = refl; counted = none; few = few'; wide = refl; deep = refl }
   where
     zeros : (n i : ℕ) → get_or (replicate n zero) i zero ≡ zero
@@ -176,6 +177,13 @@ no_tally m q g e = record { given_is = e; stays_is = refl; counted = none; few =
 pub byte_le : (t : Bool) → bool_byte t ≤ 1
 byte_le true = omega arith
 byte_le false = omega arith
+
+pub byte_is : (t u : Bool) → t ≡ u → bool_byte t ≡ cond u 1 0
+byte_is t u e = byte t ∙ ap (λ b. cond b 1 0) e
+  where
+    byte : (b : Bool) → bool_byte b ≡ cond b 1 0
+    byte true = refl
+    byte false = refl
 
 pub marker_byte : (b : MemoryBlock) (v w : Levels) (t : Bool) → t ≡ not (is_none w) → w ≡ v → bool_byte t ≡ length (marker b v)
 marker_byte b v w t e f =
@@ -235,11 +243,8 @@ block_is es i e h g = at_drop_more begins es i Empty h ∙ ap (λ x. begins (x �
 pub one_down : (xs : List ℕ) (i a : ℕ) → 0 < i → i < length xs → a ≡ sum (drop (i + 1) xs) → a + get_or xs (i - 1 + 1) 0 ≡ sum (drop (i - 1 + 1) xs)
 one_down xs i a p h e = let d : i - 1 + 1 ≡ i = omega arith in rw d (omega (arith, sum_by-drop_more (λ x. x) xs i 0 h))
 
-pub sum-drop_le : (xs : List ℕ) (i : ℕ) → sum (drop i xs) ≤ sum xs
-sum-drop_le xs i = omega (arith, sum_by-take-drop (λ x. x) xs i)
-
-pub same_answer : {t u : Bool} {a b : ℕ} → t ≡ u → a ≡ b → cond u (Some b) None ≡ cond t (Some a) None
-same_answer {t} {u} {a} {b} e f = rw (e, f)
+pub one_down_le : (xs : List ℕ) (i a : ℕ) → 0 < i → i < length xs → a ≡ sum (drop (i + 1) xs) → a + get_or xs (i - 1 + 1) 0 ≤ sum xs
+one_down_le xs i a p h e = omega (arith, one_down xs i a p h e, sum_by-take-drop (λ x. x) xs (i - 1 + 1))
 
 -- past the end no block stands
 pub none_past : (es : List Entry) (i : ℕ) → length es ≤ i → begins (drop i es) ≡ false

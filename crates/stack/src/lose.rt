@@ -1,6 +1,4 @@
 ghost use Rattle.std.specs.Prelude.{◌≡◌};
-ghost use Rattle.levels.specs.Levels.{below};
-ghost use Rattle.stack.specs.declared.Entry.TheVariants.{Marker};
 ghost use Rattle.stack.specs.Stack.{stack, dropped, restack};
 ghost use Rattle.stack.specs.Walk.{Walked};
 
@@ -10,21 +8,15 @@ use levels::Levels;
 use setmap::SetMap;
 use trace::Block;
 
-// What a lost block leaves in its place: it keeps counting at all the study's levels.
-fn lost(q: Block, levels: u32) -> Entry
-    ensures { result ≡ Marker q (below levels) }
-{
-    Entry::Marker(q, Levels::below(levels))
-}
-
 // Another processor's write of q, in a study of so many levels: q is lost, and its positions at the levels are answered.
+// The marker that it leaves in its place keeps counting at all those levels.
 pub fn lose<M: SetMap>(es: &mut [Entry], q: Block, levels: u32, map: &M) -> Walk
     ensures stretch { es.new ≡ restack (dropped levels q (stack es.old)) es.old }
     ensures walk { Walked (M.meaning map.now) q es.old result }
 {
     let walk = walk_to(es, q, map);
-    if walk.found {
-        es[walk.place] = lost(q, levels);
+    if let Ok(place) = walk.stop {
+        es[place] = Entry::Marker(q, Levels::below(levels));
     }
     walk
 }

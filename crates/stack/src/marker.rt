@@ -14,6 +14,15 @@ pub(super) struct Met {
     pub(super) keeps: Levels,
 }
 
+impl Met {
+    // Whether the marker stays: it keeps a level.
+    pub(super) fn stands(self) -> bool
+        ensures { result ≡ not (is_none self.keeps) }
+    {
+        !self.keeps.is_none()
+    }
+}
+
 // A marker of b with the levels v, on the way to q, where the markers above gave up `given`.
 pub(super) fn meet<M: SetMap>(q: Block, b: Block, v: Levels, given: Levels, map: &M) -> Met
     ensures counts { result.counts ≡ both v (below (shared (M.meaning map.now) q.number b.number)) }
@@ -27,11 +36,4 @@ pub(super) fn meet<M: SetMap>(q: Block, b: Block, v: Levels, given: Levels, map:
         gives,
         keeps: v.less(gives),
     }
-}
-
-// Whether a marker that keeps these levels stays.
-pub(super) fn stands(keeps: Levels) -> bool
-    ensures { result ≡ not (is_none keeps) }
-{
-    !keeps.is_none()
 }

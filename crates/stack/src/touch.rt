@@ -6,11 +6,11 @@ ghost use Rattle.stack.specs.Touch.{after, Answered, over, cleared, moved_up, ra
 ghost use Rattle.stack.specs.Walk.{above, thinned, Walked};
 
 use super::Entry;
-use super::marker::{meet, stands};
-use super::room::{fits, leaves_marker, packed_len, rest_start, stack_end};
+use super::marker::meet;
+use super::room::{fits, stack_end};
 use super::walk::{Walk, walk_to};
 use levels::Levels;
-use places::{bring_to_front, fill};
+use places::bring_to_front;
 use setmap::SetMap;
 use trace::Block;
 
@@ -19,7 +19,7 @@ fn clear(es: &mut [Entry], from: usize, end: usize)
     requires { (from ≤ end) × (end ≤ length es.old) }
     ensures { es.new ≡ cleared from end es.old }
 {
-    fill(&mut es[from..end], Entry::Empty);
+    es[from..end].fill(Entry::Empty);
 }
 
 // Moves the stack from `rest` on up to `to`.
@@ -51,6 +51,7 @@ fn raise(es: &mut [Entry], q: Block, to: usize, rest: usize)
 }
 
 // Takes from the markers among the first `place` entries what they give up to q.
+// What stays moves up in place, behind the entry that is read, so both places are counted.
 fn thin<M: SetMap>(es: &mut [Entry], place: usize, q: Block, map: &M)
     requires { place ≤ length es.old }
     ensures { es.new ≡ over (thinned (M.meaning map.now) q no_level (take place es.old)) es.old }
@@ -62,7 +63,7 @@ fn thin<M: SetMap>(es: &mut [Entry], place: usize, q: Block, map: &M)
             Entry::Marker(b, v) => {
                 let met = meet(q, b, v, given, map);
                 given = given.either(met.gives);
-                if stands(met.keeps) {
+                if met.stands() {
                     es[to] = Entry::Marker(b, met.keeps);
                     to += 1;
                 }
@@ -80,16 +81,10 @@ fn thin_above<M: SetMap>(es: &mut [Entry], q: Block, map: &M, walk: &Walk)
     requires { Walked (M.meaning map.now) q es.old walk.now }
     ensures { es.new ≡ over (thinned (M.meaning map.now) q no_level (above q es.old)) es.old }
 {
-    if walk.stays < walk.place || !walk.given.is_none() {
-        thin(es, walk.place, q, map);
+    let place = walk.place();
+    if walk.stays < place || !walk.given.is_none() {
+        thin(es, place, q, map);
     }
-}
-
-fn put_marker(es: &mut [Entry], at: usize, q: Block, levels: Levels)
-    requires { at < length es.old }
-    ensures { es.new ≡ slice_set es.old at (Marker q levels) }
-{
-    es[at] = Entry::Marker(q, levels);
 }
 
 // Brings what the new top will stand on to the front.
@@ -98,19 +93,20 @@ fn pack<M: SetMap>(es: &mut [Entry], q: Block, map: &M, walk: &Walk)
     ensures { es.new ≡ over (packed (M.meaning map.now) q es.old) es.old }
 {
     thin_above(es, q, map, walk);
-    if leaves_marker(walk) {
-        put_marker(es, walk.stays, q, walk.given);
+    if walk.leaves_marker() {
+        es[walk.stays] = Entry::Marker(q, walk.given);
     }
 }
 
 // An own reference to q, after the walk to it.
+// The block and the map stay two parameters: a struct of both makes each contract name them by two steps more.
 fn touch_at<M: SetMap>(es: &mut [Entry], q: Block, map: &M, walk: &Walk)
     requires walked { Walked (M.meaning map.now) q es.old walk.now }
     requires fits { length (touched (M.meaning map.now) q (stack es.old)) ≤ length es.old }
     ensures { es.new ≡ restack (touched (M.meaning map.now) q (stack es.old)) es.old }
 {
     pack(es, q, map, walk);
-    raise(es, q, packed_len(walk), rest_start(walk));
+    raise(es, q, walk.packed_len(), walk.rest_start());
 }
 
 // An own reference to q, by one walk. Where the stack would not fit into the stretch, nothing is altered.

@@ -1,5 +1,5 @@
 -- References to tables in order.
-use Rattle.std.proofs.Common.{◌≡◌, ℕ, ◌<◌, ◌≤◌, true, false, length, get_or, take, set, Ok, Err, Result, sym, ap, ◌∙◌, subst, arith, length-set, length-take}
+use Rattle.std.proofs.Common.{◌≡◌, ℕ, ◌<◌, ◌≤◌, Bool, true, false, not, ◌||◌, length, get_or, take, set, Ok, Err, Result, sym, refl, ap, ◌∙◌, subst, arith, length-set, length-take}
 use Rattle.std.proofs.lemmas.List.{get_or-set_same}
 use Rattle.places.proofs.Places.{place-within}
 use Rattle.setmap.specs.Mapping.{Mapping}
@@ -14,27 +14,42 @@ use Rattle.tables.specs.Calls.{place_of, no_more_entries, own_reference, others_
 use Rattle.order.specs.Order.{InOrder, is_held}
 use Rattle.order.proofs.Kept.{confirmed, own_in_order, write_in_order, write_skipped}
 use Rattle.study.specs.Limits.{Long}
-use Rattle.study.specs.Steps.{known_then, UnlessFull, LeftInOrder}
+use Rattle.study.specs.Steps.{known_then, UnlessFull, KnownInOrder, LeftInOrder}
+use Rattle.study.specs.declared.blocks.Spot.{Spot}
 
-module _ (m : Mapping) (s : Settings) (n : ℕ) (t : Tables) (p : ℕ) (q : Block) (k : ℕ) (l : Long s t) (lo : 1 ≤ p) (hi : p ≤ s.processors) (o : InOrder s n t)
-    (is : k ≡ place_of q (take n t.known)) where
+module _ (m : Mapping) (s : Settings) (n : ℕ) (t : Tables) (p : ℕ) (b : Spot) (l : Long s t) (lo : 1 ≤ p) (hi : p ≤ s.processors) where
+  abbrev k : ℕ
+  k = b.place
+
+  abbrev q : Block
+  q = b.block
+
   -- another's write
-  module _ (lt : k < n) where
+  module _ (o : KnownInOrder s n b t) where
     known : place_of q (take n t.known) < n
-    known = subst (λ j. j < n) is lt
+    known = subst (λ j. j < n) o.2 o.1
 
-    pub written : (u : Tables) → u ≡ others_write_to m s p q k t → InOrder s n u
-    written u e =
-        subst (InOrder s n) (sym e)
-        (subst (λ j. InOrder s n (others_write_to m s p q j t)) (sym is) (write_in_order m s n t p q l.entries l.known l.marks lo hi o known))
+    pub written : (u : Tables) → u ≡ others_write_to m s p q k t → KnownInOrder s n b u
+    written u e = (
+      subst (InOrder s n) (sym e)
+          (subst (λ j. InOrder s n (others_write_to m s p q j t)) (sym o.2) (write_in_order m s n t p q l.entries l.known l.marks lo hi o.0 known)),
+      o.1,
+      o.2 ∙ ap (λ x. place_of q (take n x.known)) (sym e),
+    )
 
-    pub skipped : is_held (get_or t.marks (mark_at s p k) Never) ≡ false → t ≡ others_write_to m s p q k t
+    skipped : is_held (get_or t.marks (mark_at s p k) Never) ≡ false → t ≡ others_write_to m s p q k t
     skipped x =
-        subst (λ j. t ≡ others_write_to m s p q j t) (sym is)
-        (sym (write_skipped m s n t p q l.entries l.known l.marks lo hi o known (subst (λ j. is_held (get_or t.marks (mark_at s p j) Never) ≡ false) is x)))
+        subst (λ j. t ≡ others_write_to m s p q j t) (sym o.2)
+        (sym (write_skipped m s n t p q l.entries l.known l.marks lo hi o.0 known (subst (λ j. is_held (get_or t.marks (mark_at s p j) Never) ≡ false) o.2 x)))
+
+  -- another's write to a processor that is passed by
+  pub passed_by : (ordered : Bool) → (ordered ≡ true → KnownInOrder s n b t) → (not ordered || is_held (get_or t.marks (mark_at s p k) Never)) ≡ false
+      → t ≡ others_write_to m s p q k t
+  passed_by true o x = skipped (o refl) x
+  passed_by false o x = cc
 
   -- an own reference, to a block that has a place or finds room
-  module _ (room : k < s.blocks) where
+  module _ (o : InOrder s n t) (is : k ≡ place_of q (take n t.known)) (room : k < s.blocks) where
     reaches : k ≤ n
     reaches = subst (λ j. j ≤ n) (sym is) (omega (arith, place-within (λ x. same x q) (take n t.known), length-take n t.known))
 
@@ -58,9 +73,9 @@ module _ (m : Mapping) (s : Settings) (n : ℕ) (t : Tables) (p : ℕ) (q : Bloc
       stands : same (get_or u.known k q) q ≡ true
       stands = ap (λ x. same (get_or x k q) q) put ∙ ap (λ x. same x q) (get_or-set_same t.known k q q (omega (arith, room, l.known))) ∙ same_refl q
 
-      done : InOrder s (known_then n k) u × (k < known_then n k) × (k ≡ place_of q (take (known_then n k) u.known))
+      done : KnownInOrder s (known_then n k) b u
       done = (ordered, grown, sym (confirmed s (known_then n k) u ordered k q q grown longer stands))
 
-    pub left_in_order : (r : Result (Unit {0}) Refusal) (u : Tables) → UnlessFull (no_more_entries m s t p q) t (own_reference m s p q k t) r u → LeftInOrder s n q k r u
+    pub left_in_order : (r : Result (Unit {0}) Refusal) (u : Tables) → UnlessFull (no_more_entries m s t p q) t (own_reference m s p q k t) r u → LeftInOrder s n b r u
     left_in_order (Ok x) u f = done u f.0 f.1
     left_in_order (Err x) u f = subst (InOrder s n) (sym f.2) o

@@ -5,3 +5,4 @@ mod Writes
 pub mod Lengths
 mod Kept
 mod Looked
+mod Sought

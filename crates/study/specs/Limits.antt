@@ -1,5 +1,5 @@
 -- What a study's settings and the tables of an unrefused call keep to.
-use Rattle.std.specs.Prelude.{◌*◌, ◌≤◌, length}
+use Rattle.std.specs.Prelude.{ℕ, ◌*◌, ◌≤◌, length}
 use Rattle.tables.specs.declared.Settings.{Settings}
 use Rattle.tables.specs.Tables.{Tables, row}
 
@@ -15,6 +15,10 @@ pub record Limited (s : Settings) : Type 0 where
   pub blocks : s.blocks ≤ 4096
   pub some_entry : 1 ≤ s.entries
   pub entries : s.entries ≤ 69632
+
+-- a processor's number in the study
+abbrev pub IsProcessor : Settings → ℕ → Type 0
+IsProcessor s p = (1 ≤ p) × (p ≤ s.processors)
 
 pub record Long (s : Settings) (t : Tables) : Type 0 where
   pub entries : s.processors * s.entries ≤ length t.entries

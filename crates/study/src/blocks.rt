@@ -1,41 +1,35 @@
-ghost use Rattle.std.specs.Prelude.{◌≡◌, ◌≤◌, length, take};
+ghost use Rattle.std.specs.Prelude.{◌≡◌, ◌≤◌, length, take, position};
 ghost use Rattle.order.specs.Order.{Distinct};
 ghost use Rattle.tables.specs.Calls.{place_of};
 ghost use Rattle.trace.specs.Items.{same};
 
 use order::hints::Hints;
-use places::{Test, seek};
 use trace::Block;
 
-// The block that is sought.
+// A block and its place among the known ones: where it stands, or, as a new one, where it will.
+// The processor is no part of it: a write takes the same block past every one.
 #[derive(Clone, Copy)]
-struct Sought {
-    block: Block,
+pub(super) struct Spot {
+    pub(super) block: Block,
+    pub(super) place: usize,
 }
 
-impl Test<Block> for Sought {
-    ghost accepts = { λ t b. same b t.block };
-
-    fn passes(&self, block: &Block) -> bool {
-        block.is(self.block)
-    }
-}
-
-// The place of a block among the first n known ones, or n.
-pub(super) fn seek_block(known: &[Block], n: u32, block: Block) -> usize
+// The place of a block among the first n known ones.
+pub(super) fn seek_block(known: &[Block], n: u32, block: Block) -> Option<usize>
     requires { n ≤ length known.now }
-    ensures value { result ≡ place_of block (take n known.now) }
-    ensures bound { result ≤ n }
+    ensures { result ≡ position (λ b. same b block) (take n known.now) }
 {
-    seek(&known[0..n as usize], &Sought { block })
+    known[..n as usize].iter().position(|b| *b == block)
 }
 
-// The same by hints, where the known blocks are distinct.
+// The place of a block among the first n known ones, which are distinct, or n; it begins with the hints.
 pub(super) fn find_block(hints: &mut Hints, known: &[Block], n: u32, block: Block) -> usize
     requires within { n ≤ length known.now }
     requires distinct { Distinct (take n known.now) }
     ensures value { result ≡ place_of block (take n known.now) }
     ensures bound { result ≤ n }
 {
-    hints.find(&known[0..n as usize], block)
+    hints
+        .find(&known[..n as usize], block)
+        .unwrap_or(n as usize)
 }

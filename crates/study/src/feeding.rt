@@ -1,22 +1,22 @@
-ghost use Rattle.std.specs.Prelude.{◌≡◌, ◌+◌, length, drop};
-ghost use Rattle.study.specs.Steps.{kept_of};
-ghost use Rattle.tables.specs.Calls.{Kept, Outcome, fed_answer, fed_item, fed_first, fed, used_up};
-ghost use Rattle.tables.specs.Tables.{tables_of};
-ghost use Rattle.trace.specs.Items.{reference};
+ghost use Rattle.std.specs.Prelude.{◌≡◌, ◌+◌, true, false, length, drop, IsSome};
+ghost use Rattle.order.specs.Order.{InOrder};
+ghost use Rattle.study.specs.Limits.{Long};
+ghost use Rattle.study.specs.Steps.{kept_of, NotShort};
+ghost use Rattle.tables.specs.Calls.{Kept, Outcome, fed_answer, fed_first, fed, used_up};
+ghost use Rattle.tables.specs.Lent.{lent, SameSlices};
 
-use super::layout::is_short;
 use super::open::OpenStudy;
+use order::hints::Hints;
 use setmap::SetMap;
-use stack::Entry;
-use tables::{Fed, Mark};
-use trace::{Block, Fault, Layer, Reference, Refusal, Source};
+use tables::LentTables;
+use trace::{Fault, Fed, Layer, Refusal, Source};
 
 // What a feed answers where its n-th item is a reference that was answered so.
-pub(super) fn answer_feed(n: u64, answer: Result<(), Refusal>) -> Result<Fed, Fault>
+fn answer_feed(n: u64, answer: Result<(), Refusal>) -> Result<Fed, Fault>
     ensures { result ≡ fed_answer n answer }
 {
     match answer {
-        Ok(_) => Ok(Fed::Accepted),
+        Ok(()) => Ok(Fed::Accepted),
         Err(refusal) => Err(Fault {
             refusal,
             item: n,
@@ -26,46 +26,45 @@ pub(super) fn answer_feed(n: u64, answer: Result<(), Refusal>) -> Result<Fed, Fa
 }
 
 impl<M: SetMap> OpenStudy<M> {
-    // A source's n-th item, which is a reference.
-    fn feed_reference(
-        &mut self,
-        r: Reference,
-        n: u64,
-        entries: &mut [Entry],
-        known: &mut [Block],
-        marks: &mut [Mark],
-        counters: &mut [u32],
-    ) -> Result<Fed, Fault>
-        ensures answer { result ≡ (fed_item (M.meaning self.old.map) self.old.settings (kept_of self.old.known self.old.accepted) (tables_of entries.old known.old marks.old counters.old) (reference r) n).answer }
-        ensures kept { kept_of self.new.known self.new.accepted ≡ (fed_item (M.meaning self.old.map) self.old.settings (kept_of self.old.known self.old.accepted) (tables_of entries.old known.old marks.old counters.old) (reference r) n).kept }
-        ensures tables { tables_of entries.new known.new marks.new counters.new ≡ (fed_item (M.meaning self.old.map) self.old.settings (kept_of self.old.known self.old.accepted) (tables_of entries.old known.old marks.old counters.old) (reference r) n).tables }
-        ensures map { self.new.map ≡ self.old.map }
-        ensures settings { self.new.settings ≡ self.old.settings }
+    // The fault of a feed whose tables are too short, which is no item's.
+    pub(super) fn refuse_short(&self, tables: &LentTables<'_>) -> Result<(), Fault>
+        ensures { NotShort self.now.setup.settings (lent tables.now) result }
     {
-        answer_feed(n, self.reference(r, entries, known, marks, counters))
+        if self.setup.is_short(tables.look()) {
+            return Err(Fault {
+                refusal: Refusal::ShortTable,
+                item: 0,
+                layer: Layer::Study,
+            });
+        }
+        Ok(())
     }
 
-    // Puts the next item of a source to the study.
-    fn feed_next<S: Source>(
+    // Puts the next item of a source to the study, on tables that are long enough. With hints, they are in order, and in order after it.
+    pub(super) fn feed_next<S: Source>(
         &mut self,
         source: &mut S,
-        entries: &mut [Entry],
-        known: &mut [Block],
-        marks: &mut [Mark],
-        counters: &mut [u32],
+        hints: Option<&mut Hints>,
+        tables: &mut LentTables<'_>,
     ) -> Result<Fed, Fault>
-        ensures answer { result ≡ (fed_first (M.meaning self.old.map) self.old.settings (kept_of self.old.known self.old.accepted) (tables_of entries.old known.old marks.old counters.old) (S.items source.old) (S.answered source.old)).answer }
-        ensures kept { kept_of self.new.known self.new.accepted ≡ (fed_first (M.meaning self.old.map) self.old.settings (kept_of self.old.known self.old.accepted) (tables_of entries.old known.old marks.old counters.old) (S.items source.old) (S.answered source.old)).kept }
-        ensures tables { tables_of entries.new known.new marks.new counters.new ≡ (fed_first (M.meaning self.old.map) self.old.settings (kept_of self.old.known self.old.accepted) (tables_of entries.old known.old marks.old counters.old) (S.items source.old) (S.answered source.old)).tables }
-        ensures map { self.new.map ≡ self.old.map }
-        ensures settings { self.new.settings ≡ self.old.settings }
+        requires long { Long self.old.setup.settings (lent tables.old) }
+        requires ordered { IsSome hints → InOrder self.old.setup.settings self.old.known (lent tables.old) }
+        ensures answer { result ≡ (fed_first (M.meaning self.old.setup.map) self.old.setup.settings (kept_of self.old.known self.old.accepted) (lent tables.old) (S.items source.old) (S.answered source.old)).answer }
+        ensures kept { kept_of self.new.known self.new.accepted ≡ (fed_first (M.meaning self.old.setup.map) self.old.setup.settings (kept_of self.old.known self.old.accepted) (lent tables.old) (S.items source.old) (S.answered source.old)).kept }
+        ensures tables { lent tables.new ≡ (fed_first (M.meaning self.old.setup.map) self.old.setup.settings (kept_of self.old.known self.old.accepted) (lent tables.old) (S.items source.old) (S.answered source.old)).tables }
+        ensures same { SameSlices tables.old tables.new }
+        ensures setup { self.new.setup ≡ self.old.setup }
         ensures items { S.items source.new ≡ drop 1 (S.items source.old) }
         ensures answered { S.answered source.new + length (S.items source.new) ≡ S.answered source.old + length (S.items source.old) }
+        ensures ordered { IsSome hints.entry → InOrder self.new.setup.settings self.new.known (lent tables.new) }
     {
-        let next = source.next()?;
-        match next {
+        match source.next()? {
             None => Ok(Fed::End),
-            Some(r) => self.feed_reference(r, source.count(), entries, known, marks, counters),
+            Some(r) => {
+                let n = source.count();
+                let answer = self.take_reference(r, hints, tables);
+                answer_feed(n, answer)
+            }
         }
     }
 
@@ -73,26 +72,17 @@ impl<M: SetMap> OpenStudy<M> {
     pub fn feed<S: Source>(
         &mut self,
         source: &mut S,
-        entries: &mut [Entry],
-        known: &mut [Block],
-        marks: &mut [Mark],
-        counters: &mut [u32],
+        tables: &mut LentTables<'_>,
     ) -> Result<Fed, Fault>
-        ensures answer { result ≡ (fed (M.meaning self.old.map) self.old.settings (kept_of self.old.known self.old.accepted) (tables_of entries.old known.old marks.old counters.old) (S.items source.old) (S.answered source.old)).answer }
-        ensures kept { kept_of self.new.known self.new.accepted ≡ (fed (M.meaning self.old.map) self.old.settings (kept_of self.old.known self.old.accepted) (tables_of entries.old known.old marks.old counters.old) (S.items source.old) (S.answered source.old)).kept }
-        ensures tables { tables_of entries.new known.new marks.new counters.new ≡ (fed (M.meaning self.old.map) self.old.settings (kept_of self.old.known self.old.accepted) (tables_of entries.old known.old marks.old counters.old) (S.items source.old) (S.answered source.old)).tables }
-        ensures map { self.new.map ≡ self.old.map }
-        ensures settings { self.new.settings ≡ self.old.settings }
-        ensures items { S.items source.new ≡ drop (used_up self.old.settings (tables_of entries.old known.old marks.old counters.old)) (S.items source.old) }
+        ensures answer { result ≡ (fed (M.meaning self.old.setup.map) self.old.setup.settings (kept_of self.old.known self.old.accepted) (lent tables.old) (S.items source.old) (S.answered source.old)).answer }
+        ensures kept { kept_of self.new.known self.new.accepted ≡ (fed (M.meaning self.old.setup.map) self.old.setup.settings (kept_of self.old.known self.old.accepted) (lent tables.old) (S.items source.old) (S.answered source.old)).kept }
+        ensures tables { lent tables.new ≡ (fed (M.meaning self.old.setup.map) self.old.setup.settings (kept_of self.old.known self.old.accepted) (lent tables.old) (S.items source.old) (S.answered source.old)).tables }
+        ensures same { SameSlices tables.old tables.new }
+        ensures setup { self.new.setup ≡ self.old.setup }
+        ensures items { S.items source.new ≡ drop (used_up self.old.setup.settings (lent tables.old)) (S.items source.old) }
         ensures answered { S.answered source.new + length (S.items source.new) ≡ S.answered source.old + length (S.items source.old) }
     {
-        if is_short(self.settings, entries, known, marks, counters) {
-            return Err(Fault {
-                refusal: Refusal::ShortTable,
-                item: 0,
-                layer: Layer::Study,
-            });
-        }
-        self.feed_next(source, entries, known, marks, counters)
+        self.refuse_short(tables)?;
+        self.feed_next(source, None, tables)
     }
 }

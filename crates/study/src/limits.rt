@@ -9,20 +9,15 @@ pub(super) fn is_unlimited(s: Settings) -> bool
     ensures value { result ≡ unlimited s }
     ensures limited { result ≡ false → Limited s }
 {
-    if s.processors < 1 || s.processors > 64 {
-        return true;
-    }
-    if s.shift > 12 {
-        return true;
-    }
-    if s.levels < 1 || s.levels > 17 {
-        return true;
-    }
-    if s.ways < 1 || s.ways > 16 {
-        return true;
-    }
-    if s.blocks < 1 || s.blocks > 4096 {
-        return true;
-    }
-    s.entries < 1 || s.entries > 69632
+    s.processors < 1
+        || s.processors > 64
+        || s.shift > 12
+        || s.levels < 1
+        || s.levels > 17
+        || s.ways < 1
+        || s.ways > 16
+        || s.blocks < 1
+        || s.blocks > 4096
+        || s.entries < 1
+        || s.entries > 69632
 }

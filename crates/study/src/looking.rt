@@ -1,16 +1,16 @@
-ghost use Rattle.std.specs.Prelude.{◌≡◌, ◌*◌, ◌≤◌, true, length, take};
+ghost use Rattle.std.specs.Prelude.{◌≡◌, ◌+◌, ◌≤◌, true, length, take, IsSome};
 ghost use Rattle.order.specs.Order.{InOrder};
 ghost use Rattle.order.specs.Looks.{no_repeat};
-ghost use Rattle.study.specs.Limits.{Limited};
+ghost use Rattle.study.specs.Limits.{Long};
 ghost use Rattle.study.specs.Steps.{RowsInOrder};
-ghost use Rattle.tables.specs.Tables.{tables_of};
+ghost use Rattle.tables.specs.Lent.{lent};
 
-use super::layout::part_start;
+use super::setup::Setup;
 use order::hints::Hints;
 use order::known::no_repeat;
 use order::rows::row_in_order;
-use stack::Entry;
-use tables::{Mark, Settings};
+use setmap::SetMap;
+use tables::LentTables;
 use trace::Block;
 
 // Notes where each block stands.
@@ -20,54 +20,47 @@ fn note_all(hints: &mut Hints, known: &[Block]) {
     }
 }
 
-// Whether each processor's entries and marks are in order, where the first n blocks are known, and distinct.
-fn rows_in_order(
-    s: Settings,
-    n: u32,
-    hints: &mut Hints,
-    entries: &[Entry],
-    known: &[Block],
-    marks: &[Mark],
-) -> bool
-    requires limits { (Limited s) × (n ≤ s.blocks) }
-    requires long { (s.processors * s.entries ≤ length entries.now) × ((s.blocks ≤ length known.now) × (s.processors * s.blocks ≤ length marks.now)) }
-    requires distinct { no_repeat (take n known.now) ≡ true }
-    ensures { result ≡ true → RowsInOrder s n entries.now known.now marks.now s.processors }
-{
-    let wide = s.entries as usize;
-    let many = s.blocks as usize;
-    for i in 0..s.processors {
-        let at = part_start(wide, s, i + 1);
-        let from = part_start(many, s, i + 1);
-        if !row_in_order(
-            &known[0..n as usize],
-            hints,
-            &entries[at..at + wide],
-            &marks[from..from + many],
-        ) {
-            return false;
+impl<M: SetMap> Setup<M> {
+    // Whether each processor's entries and marks are in order, where the first n blocks are known, and distinct.
+    fn rows_in_order(&self, n: u32, hints: &mut Hints, tables: &LentTables<'_>) -> bool
+        requires few { n ≤ self.now.settings.blocks }
+        requires long { Long self.now.settings (lent tables.now) }
+        requires distinct { no_repeat (take n tables.now.known.now) ≡ true }
+        ensures { result ≡ true → RowsInOrder self.now.settings n (lent tables.now) self.now.settings.processors }
+    {
+        let wide = self.settings.entries as usize;
+        let many = self.settings.blocks as usize;
+        for p in 1..=self.settings.processors {
+            let at = self.part_start(wide, p);
+            let from = self.part_start(many, p);
+            if !row_in_order(
+                &tables.known[..n as usize],
+                hints,
+                &tables.entries[at..at + wide],
+                &tables.marks[from..from + many],
+            ) {
+                return false;
+            }
+        }
+        true
+    }
+
+    // The hints of the first n blocks, where these are known and the tables are in order; none where they are not.
+    pub(super) fn look_for_order(&self, n: u32, tables: &LentTables<'_>) -> Option<Hints>
+        requires few { n ≤ self.now.settings.blocks }
+        requires long { Long self.now.settings (lent tables.now) }
+        ensures { IsSome result → InOrder self.now.settings n (lent tables.now) }
+    {
+        let known = &tables.known[..n as usize];
+        if !no_repeat(known) {
+            return None;
+        }
+        let mut hints = Hints::none();
+        note_all(&mut hints, known);
+        if self.rows_in_order(n, &mut hints, tables) {
+            Some(hints)
+        } else {
+            None
         }
     }
-    true
-}
-
-// Whether the tables are in order, where the first n blocks are known; the hints are then those of these blocks.
-pub(super) fn is_in_order(
-    s: Settings,
-    n: u32,
-    hints: &mut Hints,
-    entries: &[Entry],
-    known: &[Block],
-    marks: &[Mark],
-    counters: &[u32],
-) -> bool
-    requires limits { (Limited s) × (n ≤ s.blocks) }
-    requires long { (s.processors * s.entries ≤ length entries.now) × ((s.blocks ≤ length known.now) × (s.processors * s.blocks ≤ length marks.now)) }
-    ensures { result ≡ true → InOrder s n (tables_of entries.now known.now marks.now counters.now) }
-{
-    if !no_repeat(&known[0..n as usize]) {
-        return false;
-    }
-    note_all(hints, &known[0..n as usize]);
-    rows_in_order(s, n, hints, entries, known, marks)
 }

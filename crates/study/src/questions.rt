@@ -1,91 +1,88 @@
 ghost use Rattle.std.specs.Prelude.{◌≡◌, ◌+◌, ◌*◌, ◌^◌, ◌<◌, ◌≤◌, [], length, if◌then◌else◌, Some, None, slice_index};
 ghost use Rattle.stack.specs.Stack.{within};
-ghost use Rattle.study.specs.Limits.{Limited};
+ghost use Rattle.stack.specs.Walk.{position_at};
 ghost use Rattle.study.specs.Steps.{kept_of, refused_question};
 ghost use Rattle.tables.specs.Calls.{held, summed, read_off, counted};
+ghost use Rattle.tables.specs.Lent.{seen};
 ghost use Rattle.tables.specs.Tables.{tables_of, row};
+ghost use Rattle.study.specs.Limits.{IsProcessor};
 
 use super::blocks::seek_block;
 use super::closed::ClosedStudy;
-use super::layout::{is_short, part_start, row_length};
 use super::open::OpenStudy;
-use super::stretches::walk_part;
+use super::setup::Setup;
 use caches::Figures;
 use setmap::SetMap;
-use stack::Entry;
 use stack::walk::Walk;
+use tables::SeenTables;
 use tables::sums::sum_first;
-use tables::{Mark, Settings};
 use trace::{Block, Refusal};
-
-// The first refusal of a question.
-fn refuse_question(
-    s: Settings,
-    p: u32,
-    level: u32,
-    ways: u32,
-    entries: &[Entry],
-    known: &[Block],
-    marks: &[Mark],
-    counters: &[u32],
-) -> Option<Refusal>
-    requires { Limited s }
-    ensures { result ≡ refused_question s (tables_of entries.now known.now marks.now counters.now) p level ways }
-{
-    if is_short(s, entries, known, marks, counters) {
-        return Some(Refusal::ShortTable);
-    }
-    if p < 1 || p > s.processors {
-        return Some(Refusal::Processor);
-    }
-    if s.levels <= level {
-        return Some(Refusal::Question);
-    }
-    if ways < 1 || ways > s.ways {
-        return Some(Refusal::Question);
-    }
-    None
-}
-
-// The sum of the first d counters of a level, in counters that begin at `from`.
-fn sum_level(counters: &[u32], s: Settings, from: usize, level: u32, d: u32) -> u64
-    requires { (Limited s) × ((level < s.levels) × ((d ≤ s.ways) × ((from + s.levels * s.ways ≤ length counters.now) × (from ≤ 2 ^ 27)))) }
-    ensures value { result ≡ summed s from level d counters.now }
-    ensures small { result ≤ 2 ^ 36 }
-{
-    let at = from + level as usize * s.ways as usize;
-    sum_first(&counters[at..at + s.ways as usize], d as usize)
-}
 
 // Whether a cache of so many ways reaches the position at a level that a walk found.
 fn reaches(walk: &Walk, level: u32, ways: u32) -> bool
-    requires { level < 17 }
-    ensures { result ≡ within (if walk.now.found then Some (slice_index walk.now.positions level) else None) ways }
+    ensures { result ≡ within (position_at level walk.now) ways }
 {
-    walk.found && walk.positions[level as usize] <= ways as usize
+    walk.position(level as usize)
+        .is_some_and(|k| k <= ways as usize)
 }
 
-// What is read off the counters of processor p, for so many ways at a level.
-fn read_figures(counters: &[u32], s: Settings, p: u32, level: u32, ways: u32) -> Figures
-    requires asked { (Limited s) × ((1 ≤ p) × ((p ≤ s.processors) × ((level < s.levels) × (ways ≤ s.ways)))) }
-    requires long { s.processors * row s ≤ length counters.now }
-    ensures { result ≡ read_off s (tables_of [] [] [] counters.now) p level ways }
-{
-    let at = part_start(row_length(s), s, p);
-    let references = counters[at];
-    let cold = counters[at + 1];
-    let lost = counters[at + 2];
-    let hits = sum_level(counters, s, at + 3, level, ways);
-    let cells = s.levels as usize * s.ways as usize;
-    let drops = sum_level(counters, s, at + (3 + cells), level, ways);
-    let found = hits + (u64::from(cold) + u64::from(lost));
-    Figures {
-        references,
-        hits,
-        drops,
-        cold,
-        lost,
-        replaced: u64::from(references).saturating_sub(found),
+impl<M: SetMap> Setup<M> {
+    // The first refusal of a question.
+    fn refuse_question(
+        &self,
+        p: u32,
+        level: u32,
+        ways: u32,
+        tables: SeenTables<'_>,
+    ) -> Result<(), Refusal>
+        ensures { elim result [ Ok x ↦ refused_question self.now.settings (seen tables.entry) p level ways ≡ None | Err y ↦ refused_question self.now.settings (seen tables.entry) p level ways ≡ Some y ] }
+    {
+        let s = self.settings;
+        if self.is_short(tables) {
+            return Err(Refusal::ShortTable);
+        }
+        if p < 1 || p > s.processors {
+            return Err(Refusal::Processor);
+        }
+        if level >= s.levels || ways < 1 || ways > s.ways {
+            return Err(Refusal::Question);
+        }
+        Ok(())
+    }
+
+    // The sum of the first d counters of a level, in counters that begin at `from`.
+    fn sum_level(&self, counters: &[u32], from: usize, level: u32, d: u32) -> u64
+        requires { (level < self.now.settings.levels) × (d ≤ self.now.settings.ways) × (from + self.now.settings.levels * self.now.settings.ways ≤ length counters.now) × (from ≤ 2 ^ 27) }
+        ensures value { result ≡ summed self.now.settings from level d counters.now }
+        ensures small { result ≤ 2 ^ 36 }
+    {
+        let ways = self.settings.ways as usize;
+        let at = from + level as usize * ways;
+        sum_first(&counters[at..at + ways], d as usize)
+    }
+
+    // What is read off the counters of processor p, for so many ways at a level.
+    fn read_figures(&self, counters: &[u32], p: u32, level: u32, ways: u32) -> Figures
+        requires asked { (IsProcessor self.now.settings p) × (level < self.now.settings.levels) × (ways ≤ self.now.settings.ways) }
+        requires long { self.now.settings.processors * row self.now.settings ≤ length counters.now }
+        ensures { result ≡ read_off self.now.settings (tables_of [] [] [] counters.now) p level ways }
+    {
+        let at = self.part_start(self.row_length(), p);
+        let references = counters[at];
+        let cold = counters[at + 1];
+        let lost = counters[at + 2];
+        let hits = self.sum_level(counters, at + 3, level, ways);
+        let cells = self.settings.levels as usize * self.settings.ways as usize;
+        let drops = self.sum_level(counters, at + (3 + cells), level, ways);
+        let found = hits + (u64::from(cold) + u64::from(lost));
+        Figures {
+            references,
+            hits,
+            drops,
+            cold,
+            lost,
+            replaced: u64::from(references).saturating_sub(found),
+        }
     }
 }
 
@@ -97,38 +94,28 @@ impl<M: SetMap> OpenStudy<M> {
         level: u32,
         ways: u32,
         b: Block,
-        entries: &[Entry],
-        known: &[Block],
-        marks: &[Mark],
-        counters: &[u32],
+        tables: SeenTables<'_>,
     ) -> Result<bool, Refusal>
-        ensures { result ≡ held (M.meaning self.now.map) self.now.settings (kept_of self.now.known self.now.accepted) (tables_of entries.now known.now marks.now counters.now) p level ways b }
+        ensures { result ≡ held (M.meaning self.now.setup.map) self.now.setup.settings (kept_of self.now.known self.now.accepted) (seen tables.entry) p level ways b }
     {
-        let s = self.settings;
-        match refuse_question(s, p, level, ways, entries, known, marks, counters) {
-            Some(refusal) => Err(refusal),
-            None => {
-                if seek_block(known, self.known, b) < self.known as usize {
-                    let walk = walk_part(&self.map, s, p, b, entries);
-                    Ok(reaches(&walk, level, ways))
-                } else {
-                    Ok(false)
-                }
-            }
+        self.setup.refuse_question(p, level, ways, tables)?;
+        if seek_block(tables.known, self.known, b).is_none() {
+            return Ok(false);
         }
+        let walk = self.setup.walk_part(p, b, tables.entries);
+        Ok(reaches(&walk, level, ways))
     }
 
     // Ends the references.
     pub fn close(self) -> ClosedStudy<M>
-        ensures { (result.map ≡ self.map) × (result.settings ≡ self.settings) }
+        ensures { result.setup ≡ self.setup }
     {
         let OpenStudy {
-            map,
-            settings,
+            setup,
             known: _,
             accepted: _,
         } = self;
-        ClosedStudy { map, settings }
+        ClosedStudy { setup }
     }
 }
 
@@ -139,17 +126,11 @@ impl<M: SetMap> ClosedStudy<M> {
         p: u32,
         level: u32,
         ways: u32,
-        entries: &[Entry],
-        known: &[Block],
-        marks: &[Mark],
-        counters: &[u32],
+        tables: SeenTables<'_>,
     ) -> Result<Figures, Refusal>
-        ensures { result ≡ counted (M.meaning self.now.map) self.now.settings (tables_of entries.now known.now marks.now counters.now) p level ways }
+        ensures { result ≡ counted (M.meaning self.now.setup.map) self.now.setup.settings (seen tables.entry) p level ways }
     {
-        let s = self.settings;
-        match refuse_question(s, p, level, ways, entries, known, marks, counters) {
-            Some(refusal) => Err(refusal),
-            None => Ok(read_figures(counters, s, p, level, ways)),
-        }
+        self.setup.refuse_question(p, level, ways, tables)?;
+        Ok(self.setup.read_figures(tables.counters, p, level, ways))
     }
 }

@@ -1,66 +1,60 @@
-ghost use Rattle.std.specs.Prelude.{◌≡◌, Some, None, Ok, Err};
-ghost use Rattle.study.specs.Limits.{Limited, Long};
-ghost use Rattle.tables.specs.Calls.{set_up_refusal};
-ghost use Rattle.tables.specs.Tables.{tables_of, cleared};
+ghost use Rattle.std.specs.Prelude.{◌≡◌, ◌*◌, ◌≤◌, cond, length, replicate, Some, None, Ok, Err};
+ghost use Rattle.places.specs.Parts.{put};
+ghost use Rattle.tables.specs.Calls.{short, set_up_refusal};
+ghost use Rattle.stack.specs.declared.Entry.TheVariants.{Empty as EmptyEntry};
+ghost use Rattle.tables.specs.declared.Mark.TheVariants.{Never as NeverMark};
+ghost use Rattle.tables.specs.Tables.{Tables, tables_of, row, cleared};
 ghost use Rattle.theory.specs.Faithful.{Faithful};
+ghost use Rattle.trace.specs.declared.Refusal.TheVariants.{ShortTable as ShortTables};
 
-use super::Refused;
-use super::layout::{is_short, row_length};
 use super::limits::is_unlimited;
 use super::open::OpenStudy;
-use places::fill;
+use super::setup::Setup;
 use setmap::{SetMap, levels_of};
 use stack::Entry;
-use tables::{Mark, Settings};
-use trace::{Block, Refusal};
+use tables::{Mark, SeenTables, Settings};
+use trace::{Block, Refusal, Refused};
 
-// The first refusal of a set-up.
-fn refuse_set_up<M: SetMap>(
-    map: &M,
-    s: Settings,
-    entries: &[Entry],
-    known: &[Block],
-    marks: &[Mark],
-    counters: &[u32],
-) -> Option<Refusal>
-    ensures value { result ≡ set_up_refusal (M.meaning map.now) s (tables_of entries.now known.now marks.now counters.now) }
-    ensures limited { result ≡ None → Limited s }
-    ensures long { result ≡ None → Long s (tables_of entries.now known.now marks.now counters.now) }
-{
-    if is_unlimited(s) {
-        return Some(Refusal::Setting);
+impl<M: SetMap> Setup<M> {
+    // A map and settings that fit; only short tables refuse a set-up on them after that. Or the map back, and why.
+    fn new(map: M, settings: Settings) -> Result<Setup<M>, Refused<M>>
+        ensures { elim result [ Ok x ↦ (x.map ≡ map) × (x.settings ≡ settings) × ((t : Tables) → set_up_refusal (M.meaning map) settings t ≡ cond (short settings t) (Some ShortTables) None) | Err x ↦ (x.map ≡ map) × ((t : Tables) → set_up_refusal (M.meaning map) settings t ≡ Some x.refusal) ] }
+    {
+        if is_unlimited(settings) {
+            return Err(Refused {
+                map,
+                refusal: Refusal::Setting,
+            });
+        }
+        if levels_of(&map) < settings.levels {
+            return Err(Refused {
+                map,
+                refusal: Refusal::Level,
+            });
+        }
+        Ok(Setup { map, settings })
     }
-    if levels_of(map) < s.levels {
-        return Some(Refusal::Level);
-    }
-    if is_short(s, entries, known, marks, counters) {
-        return Some(Refusal::ShortTable);
-    }
-    None
-}
 
-// Makes what a study uses of the tables empty, never and zero.
-fn clear_tables(
-    s: Settings,
-    entries: &mut [Entry],
-    known: &[Block],
-    marks: &mut [Mark],
-    counters: &mut [u32],
-)
-    requires { (Limited s) × (Long s (tables_of entries.old known.now marks.old counters.old)) }
-    ensures { tables_of entries.new known.now marks.new counters.new ≡ cleared s (tables_of entries.old known.now marks.old counters.old) }
-{
-    let processors = s.processors as usize;
-    fill(
-        &mut entries[0..processors * s.entries as usize],
-        Entry::Empty,
-    );
-    fill(&mut marks[0..processors * s.blocks as usize], Mark::Never);
-    fill(&mut counters[0..processors * row_length(s)], 0);
+    // Makes what a study uses of its tables empty, never and zero.
+    fn clear(&self, entries: &mut [Entry], marks: &mut [Mark], counters: &mut [u32])
+        requires entries { self.now.settings.processors * self.now.settings.entries ≤ length entries.old }
+        requires marks { self.now.settings.processors * self.now.settings.blocks ≤ length marks.old }
+        requires counters { self.now.settings.processors * row self.now.settings ≤ length counters.old }
+        ensures entries { let n = self.now.settings.processors * self.now.settings.entries in entries.new ≡ put 0 n (replicate n EmptyEntry) entries.old }
+        ensures marks { let n = self.now.settings.processors * self.now.settings.blocks in marks.new ≡ put 0 n (replicate n NeverMark) marks.old }
+        ensures counters { let n = self.now.settings.processors * row self.now.settings in counters.new ≡ put 0 n (replicate n 0) counters.old }
+    {
+        let s = self.settings;
+        let processors = s.processors as usize;
+        entries[..processors * s.entries as usize].fill(Entry::Empty);
+        marks[..processors * s.blocks as usize].fill(Mark::Never);
+        counters[..processors * self.row_length()].fill(0);
+    }
 }
 
 impl<M: SetMap> OpenStudy<M> {
     // A study with its tables cleared; or the map back, the tables as they were, and why.
+    // It takes the tables one by one, since it only looks at the known blocks.
     pub fn set_up(
         map: M,
         s: Settings,
@@ -69,36 +63,29 @@ impl<M: SetMap> OpenStudy<M> {
         marks: &mut [Mark],
         counters: &mut [u32],
     ) -> Result<OpenStudy<M>, Refused<M>>
-        ensures answer { elim result [ Ok o ↦ (set_up_refusal (M.meaning map) s (tables_of entries.old known.now marks.old counters.old) ≡ None) × (o.map ≡ map) × (o.settings ≡ s) × (o.known ≡ 0) × (o.accepted ≡ 0) | Err x ↦ (set_up_refusal (M.meaning map) s (tables_of entries.old known.now marks.old counters.old) ≡ Some x.refusal) × (x.map ≡ map) ] }
+        ensures answer { elim result [ Ok o ↦ (set_up_refusal (M.meaning map) s (tables_of entries.old known.now marks.old counters.old) ≡ None) × (o.setup.map ≡ map) × (o.setup.settings ≡ s) × (o.known ≡ 0) × (o.accepted ≡ 0) | Err x ↦ (set_up_refusal (M.meaning map) s (tables_of entries.old known.now marks.old counters.old) ≡ Some x.refusal) × (x.map ≡ map) ] }
         ensures tables { tables_of entries.new known.now marks.new counters.new ≡ elim result [ Ok o ↦ cleared s (tables_of entries.old known.now marks.old counters.old) | Err x ↦ tables_of entries.old known.now marks.old counters.old ] }
         ensures faithful { Faithful (M.meaning map) s }
     {
-        OpenStudy::start(map, s, entries, known, marks, counters)
-    }
-
-    // The set-up itself; what every list of calls after it keeps to is what `set_up` promises besides.
-    fn start(
-        map: M,
-        s: Settings,
-        entries: &mut [Entry],
-        known: &[Block],
-        marks: &mut [Mark],
-        counters: &mut [u32],
-    ) -> Result<OpenStudy<M>, Refused<M>>
-        ensures answer { elim result [ Ok o ↦ (set_up_refusal (M.meaning map) s (tables_of entries.old known.now marks.old counters.old) ≡ None) × (o.map ≡ map) × (o.settings ≡ s) × (o.known ≡ 0) × (o.accepted ≡ 0) | Err x ↦ (set_up_refusal (M.meaning map) s (tables_of entries.old known.now marks.old counters.old) ≡ Some x.refusal) × (x.map ≡ map) ] }
-        ensures tables { tables_of entries.new known.now marks.new counters.new ≡ elim result [ Ok o ↦ cleared s (tables_of entries.old known.now marks.old counters.old) | Err x ↦ tables_of entries.old known.now marks.old counters.old ] }
-    {
-        match refuse_set_up(&map, s, entries, known, marks, counters) {
-            Some(refusal) => Err(Refused { map, refusal }),
-            None => {
-                clear_tables(s, entries, known, marks, counters);
-                Ok(OpenStudy {
-                    map,
-                    settings: s,
-                    known: 0,
-                    accepted: 0,
-                })
-            }
+        let setup = Setup::new(map, s)?;
+        let tables = SeenTables {
+            entries,
+            known,
+            marks,
+            counters,
+        };
+        if setup.is_short(tables) {
+            let Setup { map, settings: _ } = setup;
+            return Err(Refused {
+                map,
+                refusal: Refusal::ShortTable,
+            });
         }
+        setup.clear(entries, marks, counters);
+        Ok(OpenStudy {
+            setup,
+            known: 0,
+            accepted: 0,
+        })
     }
 }

@@ -6,8 +6,8 @@ use Rattle.setmap.specs.Mapping.{Mapping}
 use Rattle.trace.specs.Items.{Item, reference, bad}
 use Rattle.trace.specs.declared.Fault.{Fault}
 use Rattle.trace.specs.declared.Refusal.{Refusal}
-use Rattle.tables.specs.declared.Fed.{Fed}
-use Rattle.tables.specs.declared.Fed.TheVariants.{Accepted, End}
+use Rattle.trace.specs.declared.Fed.{Fed}
+use Rattle.trace.specs.declared.Fed.TheVariants.{Accepted, End}
 use Rattle.tables.specs.declared.Settings.{Settings}
 use Rattle.tables.specs.Tables.{Tables}
 use Rattle.tables.specs.Calls.{Kept, short, fed, fed_first, fed_answer, referenced}

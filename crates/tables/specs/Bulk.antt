@@ -5,8 +5,8 @@ use Rattle.trace.specs.Items.{Item}
 use Rattle.trace.specs.declared.Fault.{Fault}
 use Rattle.trace.specs.declared.Layer.TheVariants.{Study}
 use Rattle.trace.specs.declared.Refusal.TheVariants.{ShortTable}
-use Rattle.tables.specs.declared.Fed.{Fed}
-use Rattle.tables.specs.declared.Fed.TheVariants.{Accepted, End}
+use Rattle.trace.specs.declared.Fed.{Fed}
+use Rattle.trace.specs.declared.Fed.TheVariants.{Accepted, End}
 use Rattle.tables.specs.declared.Settings.{Settings}
 use Rattle.tables.specs.Tables.{Tables}
 use Rattle.tables.specs.Calls.{Kept, short, fed}

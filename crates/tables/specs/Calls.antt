@@ -16,8 +16,8 @@ use Rattle.stack.specs.declared.Entry.{Entry}
 use Rattle.stack.specs.Stack.{stack, position, within, touched, dropped, restack}
 use Rattle.tables.specs.declared.Event.{Event}
 use Rattle.tables.specs.declared.Event.TheVariants.{Own, OthersWrite}
-use Rattle.tables.specs.declared.Fed.{Fed}
-use Rattle.tables.specs.declared.Fed.TheVariants.{Accepted, End}
+use Rattle.trace.specs.declared.Fed.{Fed}
+use Rattle.trace.specs.declared.Fed.TheVariants.{Accepted, End}
 use Rattle.tables.specs.declared.Mark.{Mark}
 use Rattle.tables.specs.declared.Mark.TheVariants.{Never, Held, Lost}
 use Rattle.tables.specs.declared.Settings.{Settings}

@@ -1,3 +1,4 @@
 pub mod Tables
+pub mod Lent
 pub mod Calls
 pub mod Bulk

@@ -1,8 +1,11 @@
 #![tactic(auto)]
 
+mod lent;
 pub mod marks;
 pub mod scoring;
 pub mod sums;
+
+pub use lent::{LentTables, SeenTables};
 
 // What a study is set up with; docs/RULES.md has the limits.
 #[derive(Clone, Copy)]
@@ -28,11 +31,4 @@ pub enum Mark {
 pub enum Event {
     Own,
     OthersWrite,
-}
-
-// What a feed answers where nothing is refused.
-#[derive(Clone, Copy)]
-pub enum Fed {
-    Accepted,
-    End,
 }

@@ -19,15 +19,14 @@ fn change(mark: Mark, event: Event) -> Mark
 }
 
 // Puts an event to a mark, in its place, and answers the mark before; alters nothing where there is none.
+// Written by its index: what `get_mut` lends says nothing of the marks afterwards.
 pub fn note(marks: &mut [Mark], at: usize, event: Event) -> Mark
     ensures before { result ≡ slice_index_or marks.old at Never }
     ensures after { marks.new ≡ slice_set marks.old at (marked (slice_index_or marks.old at Never) event) }
 {
-    if at < marks.len() {
-        let before = marks[at];
-        marks[at] = change(before, event);
-        before
-    } else {
-        Mark::Never
-    }
+    let Some(&before) = marks.get(at) else {
+        return Mark::Never;
+    };
+    marks[at] = change(before, event);
+    before
 }

@@ -22,11 +22,11 @@ fn reaches(ways: u32, position: usize) -> bool
 pub fn score(counters: &mut [u32], s: Settings, from: usize, walk: &Walk)
     ensures { (m : Mapping) (q : MemoryBlock) (es : List StackEntry) → Walked m q es walk.now → counters.new ≡ scores m s from q (stack es) (min s.levels 17) counters.old }
 {
-    if walk.found {
-        for i in 0..s.levels.min(17) {
-            let k = walk.positions[i as usize];
+    if walk.stop.is_ok() {
+        let levels = s.levels.min(17) as usize;
+        for (i, &k) in walk.positions[..levels].iter().enumerate() {
             if reaches(s.ways, k) {
-                let at = i as usize * s.ways as usize + k.saturating_sub(1);
+                let at = i * s.ways as usize + k.saturating_sub(1);
                 bump(counters, from.saturating_add(at));
             }
         }

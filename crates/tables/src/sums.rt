@@ -17,9 +17,5 @@ pub fn sum_first(row: &[u32], d: usize) -> u64
     ensures value { result ≡ min (sum (take d row.now)) (2 ^ 64 - 1) }
     ensures few { result ≤ d * 2 ^ 32 }
 {
-    if d < row.len() {
-        sum_all(&row[0..d])
-    } else {
-        sum_all(row)
-    }
+    sum_all(&row[..d.min(row.len())])
 }

@@ -1,9 +1,14 @@
 -- The items of a text, one line on.
-use Rattle.std.proofs.Common.{◌≡◌, ℕ, ◌+◌, ◌<◌, ◌≤◌, List, [], ◌∷◌, length, None, Ok, refl, ap, ◌∙◌, arith}
+use Rattle.std.proofs.Common.{◌≡◌, ℕ, ◌+◌, ◌<◌, ◌≤◌, List, [], ◌∷◌, length, Some, Ok, Err, refl, ap, ◌∙◌, arith}
+use Rattle.std.specs.List.{onto_first}
 use Rattle.trace.specs.Items.{bad}
 use Rattle.trace.specs.Next.{Given}
-use Rattle.trace.specs.Text.{onto_first, pieces, line_of, item, line_items, text_items}
-use Rattle.trace.specs.declared.Refusal.TheVariants.{CutOff}
+use Rattle.trace.specs.Text.{pieces, line_of, item, line_items, text_items}
+use Rattle.trace.specs.declared.Reference.{Reference}
+use Rattle.trace.specs.declared.Refusal.TheVariants as refusal
+use Rattle.text.specs.Told.{told, LineRead}
+use Rattle.text.specs.declared.faults.LineFault.{LineFault}
+use Rattle.text.specs.declared.faults.LineFault.TheVariants.{Fields, Field, CutOff}
 use Rattle.text.proofs.Counting.{some_piece}
 
 pub one_more : (l : List ℕ) (ls : List (List ℕ)) → 0 < length ls → line_items (l ∷ ls) ≡ item (line_of (pieces 44 l)) ∷ line_items ls
@@ -15,17 +20,22 @@ one_more (b ∷ bs) (next ∷ ls) h = refl
 pub items_more : (bs line rest : List ℕ) → pieces 10 bs ≡ line ∷ pieces 10 rest → text_items bs ≡ item (line_of (pieces 44 line)) ∷ text_items rest
 items_more bs line rest e = ap line_items e ∙ one_more line (pieces 10 rest) (some_piece 10 rest)
 
-last_item : (bs : List ℕ) → 0 < length bs → line_items (bs ∷ []) ≡ bad CutOff ∷ []
+last_item : (bs : List ℕ) → 0 < length bs → line_items (bs ∷ []) ≡ bad refusal.CutOff ∷ []
 last_item [] h = absurd (omega arith)
 last_item (b ∷ bs) h = refl
 
-pub items_cut_off : (bs : List ℕ) → 0 < length bs → pieces 10 bs ≡ bs ∷ [] → text_items bs ≡ bad CutOff ∷ []
+pub items_cut_off : (bs : List ℕ) → 0 < length bs → pieces 10 bs ≡ bs ∷ [] → text_items bs ≡ bad refusal.CutOff ∷ []
 items_cut_off bs h e = ap line_items e ∙ last_item bs h
 
--- an empty text is the end
-pub at_end : (bs : List ℕ) (n : ℕ) → length bs ≡ 0 → Given (text_items bs) n (Ok None) (text_items bs) n
-at_end [] n e = (refl, refl, refl)
-at_end (b ∷ bs) n e = absurd (omega arith)
+-- of all that was left, `bytes` is lent for the next item, whose number is `item`; what follows its line is put back
+module _ (left bytes line rest : List ℕ) (n i n' : ℕ) (lent : bytes ≡ left) (numbered : i ≡ n + 1) (counted : n' ≡ i) (parted : pieces 10 bytes ≡ line ∷ pieces 10 rest) where
+  pub accepted : (x : Reference) → line_of (pieces 44 line) ≡ Ok x → Given (text_items left) n (Ok (Some x)) (text_items rest) n'
+  accepted x read = rw (← lent, items_more bytes line rest parted, read) (refl, refl, counted ∙ numbered)
+
+  pub refused : (e : LineFault) → LineRead i (pieces 44 line) (Err e) → Given (text_items left) n (Err (told e)) (text_items rest) n'
+  refused (Fields k) read = rw (← lent, items_more bytes line rest parted, read.0, read.1, numbered) (refl, refl, counted ∙ numbered)
+  refused (Field e) read = rw (← lent, items_more bytes line rest parted, read.0.0, read.0.1, numbered) (refl, refl, counted ∙ numbered)
+  refused (CutOff k) read = absurd read
 
 -- each item takes a byte or more
 items_onto : (b : ℕ) (ls : List (List ℕ)) → length (line_items (onto_first b ls)) ≤ 1 + length (line_items ls)

@@ -1,15 +1,15 @@
 -- Where bytes are cut: before and after the first byte `at`.
-use Rattle.std.specs.Prelude.{◌≡◌, ℕ, zero, suc, ◌+◌, cond, List, [], ◌∷◌, length, ◌==◌}
+use Rattle.std.specs.Prelude.{◌≡◌, ℕ, zero, suc, ◌+◌, List, [], ◌∷◌, length, ◌==◌}
+use Rattle.std.specs.List.{before_first, after_first}
 use Rattle.trace.specs.Text.{pieces}
 
+-- all of it where there is no such byte
 abbrev pub upto : ℕ → List ℕ → List ℕ
-upto at [] = []
-upto at (b ∷ bs) = cond (b == at) [] (b ∷ upto at bs)
+upto at bs = before_first (λ b. b == at) bs
 
 -- nothing where there is no such byte
 abbrev pub past : ℕ → List ℕ → List ℕ
-past at [] = []
-past at (b ∷ bs) = cond (b == at) bs (past at bs)
+past at bs = after_first (λ b. b == at) bs
 
 -- n pieces, each cut off the front of what the one before left
 abbrev pub parts : ℕ → ℕ → List ℕ → List (List ℕ)

@@ -1,29 +1,20 @@
-ghost use Rattle.std.specs.Prelude.{◌≡◌, ◌<◌, [], ◌∷◌, length, Some, None};
+ghost use Rattle.std.specs.Prelude.{◌≡◌, ◌<◌, ◌==◌, [], ◌∷◌, length, position, Some, None};
 ghost use Rattle.text.specs.Cuts.{upto, past, parts, Parted, Whole};
 ghost use Rattle.trace.specs.Text.{pieces};
 
-// The place of the first byte `at`, or the length.
-fn find_byte(bytes: &[u8], at: u8) -> usize
-    ensures { result ≡ length (upto at bytes.now) }
+// The place of the first byte `at`.
+fn find_byte(bytes: &[u8], at: u8) -> Option<usize>
+    ensures { result ≡ position (λ b. b == at) bytes.now }
 {
-    for (i, b) in bytes.iter().enumerate() {
-        if *b == at {
-            return i;
-        }
-    }
-    bytes.len()
+    bytes.iter().position(|b| *b == at)
 }
 
 // What stands before the first byte `at` and what follows it; None without such a byte.
 fn split_once(bytes: &[u8], at: u8) -> Option<(&[u8], &[u8])>
     ensures { elim result [ Some x ↦ Parted at bytes.now x.0.now x.1.now × (x.0.now ≡ upto at bytes.now) × (x.1.now ≡ past at bytes.now) | None ↦ Whole at bytes.now × (upto at bytes.now ≡ bytes.now) × (past at bytes.now ≡ []) ] }
 {
-    let end = find_byte(bytes, at);
-    if end < bytes.len() {
-        Some((&bytes[0..end], &bytes[end + 1..]))
-    } else {
-        None
-    }
+    let place = find_byte(bytes, at)?;
+    Some((&bytes[..place], &bytes[place + 1..]))
 }
 
 // The line before the first line feed and what follows it; None without a line feed.
@@ -38,13 +29,7 @@ pub fn count_fields(line: &[u8]) -> usize
     ensures count { result ≡ length (pieces 44 line.now) }
     ensures fields { pieces 44 line.now ≡ parts result 44 line.now }
 {
-    let mut count = 1;
-    for b in line {
-        if *b == b',' {
-            count += 1;
-        }
-    }
-    count
+    line.iter().filter(|b| **b == b',').count() + 1
 }
 
 // The first field and what follows its comma; nothing follows the last field.

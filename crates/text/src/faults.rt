@@ -6,14 +6,14 @@ ghost use Rattle.text.specs.Told.{refusal_of, told};
 use trace::{Fault, Layer, Refusal};
 
 // What is wrong with a field.
-#[derive(Clone, Copy)]
+#[derive(Clone, Copy, PartialEq, Eq)]
 pub enum Wrong {
     Form,
     Size,
 }
 
 // A refused field, and the item of the trace that it stands in.
-#[derive(Clone, Copy)]
+#[derive(Clone, Copy, PartialEq, Eq)]
 pub struct FieldFault {
     pub item: u64,
     pub wrong: Wrong,
@@ -40,7 +40,7 @@ impl FieldFault {
 }
 
 // A refused line: it has not three fields, a field is refused, or no line feed ends it.
-#[derive(Clone, Copy)]
+#[derive(Clone, Copy, PartialEq, Eq)]
 pub enum LineFault {
     Fields { item: u64 },
     Field(FieldFault),
@@ -73,18 +73,7 @@ impl From<LineFault> for Fault {
     fn from(e: LineFault) -> Fault {
         let (refusal, item) = match e {
             LineFault::Fields { item } => (Refusal::Form, item),
-            LineFault::Field(
-                FieldFault {
-                    item,
-                    wrong: Wrong::Form,
-                },
-            ) => (Refusal::Form, item),
-            LineFault::Field(
-                FieldFault {
-                    item,
-                    wrong: Wrong::Size,
-                },
-            ) => (Refusal::Size, item),
+            LineFault::Field(fault) => (Refusal::from(fault), fault.item),
             LineFault::CutOff { item } => (Refusal::CutOff, item),
         };
         Fault {

@@ -44,12 +44,7 @@ pub fn read_operation(field: &[u8], item: u64) -> Result<Operation, FieldFault>
     let [letter] = field else {
         return Err(FieldFault::form(item));
     };
-    match char::from(*letter) {
-        'r' => Ok(Operation::Read),
-        'w' => Ok(Operation::Write),
-        'f' => Ok(Operation::Fetch),
-        _ => Err(FieldFault::form(item)),
-    }
+    Operation::try_from(char::from(*letter)).map_err(|_| FieldFault::form(item))
 }
 
 // The first field of a line as a number up to the limit, and the rest of the line.
@@ -61,6 +56,7 @@ pub fn take_number(line: &[u8], limit: u32, item: u64) -> Result<(u32, &[u8]), F
     Ok((value, rest))
 }
 
+// One function over both readers would be longer than the two: it needs a bound, its clause, and a caller for each.
 // The first field of a line as an operation, and the rest of the line.
 pub fn take_operation(line: &[u8], item: u64) -> Result<(Operation, &[u8]), FieldFault>
     ensures { elim result [ Ok x ↦ (operation_field (upto 44 line.now) ≡ Ok x.0) × (x.1.now ≡ past 44 line.now) | Err e ↦ Refused (operation_field (upto 44 line.now)) item e ] }

@@ -15,7 +15,7 @@ use Rattle.caches.specs.declared.Figures.{Figures}
 use Rattle.caches.specs.Caches.{History, own, among, figures}
 use Rattle.stack.specs.Stack.{stack, touched, position, within}
 use Rattle.tables.specs.declared.Settings.{Settings}
-use Rattle.tables.specs.declared.Fed.{Fed}
+use Rattle.trace.specs.declared.Fed.{Fed}
 use Rattle.tables.specs.Tables.{Tables, cleared, stretch}
 use Rattle.tables.specs.Calls.{Kept, Values, case_of, Outcome, short, set_up_refusal, place_of, reference_refusal, accepted_reference, outcome, fed, fed_first, fed_answer, question_refusal, read_off}
 use Rattle.trace.specs.Refusals.{outside, unless_refused}

@@ -8,8 +8,8 @@ use Rattle.trace.specs.declared.Reference.{Reference}
 use Rattle.trace.specs.declared.Refusal.{Refusal}
 use Rattle.caches.specs.declared.Figures.{Figures}
 use Rattle.caches.specs.Caches.{Access, History}
-use Rattle.tables.specs.declared.Fed.{Fed}
-use Rattle.tables.specs.declared.Fed.TheVariants.{Accepted, End}
+use Rattle.trace.specs.declared.Fed.{Fed}
+use Rattle.trace.specs.declared.Fed.TheVariants.{Accepted, End}
 use Rattle.tables.specs.declared.Settings.{Settings}
 use Rattle.tables.specs.Tables.{Tables, cleared}
 use Rattle.tables.specs.Calls.{Kept, set_up_refusal, referenced, fed, held, counted}

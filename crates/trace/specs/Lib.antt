@@ -1,5 +1,6 @@
 pub mod Items
 pub mod Refusals
 pub mod Next
+pub mod Operations
 pub mod Text
 pub mod Records

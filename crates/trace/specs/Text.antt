@@ -1,5 +1,6 @@
 -- The text form of a trace: a line for each reference, `processor,operation,address`.
 use Rattle.std.specs.Prelude.{ℕ, ◌+◌, ◌-◌, ◌*◌, ◌^◌, Bool, true, false, cond, not, ◌&&◌, List, [], ◌∷◌, Ok, Err, fold, Result, ◌==◌, nat_le}
+use Rattle.std.specs.List.{slice_split}
 use Rattle.trace.specs.Items.{Item, reference, bad}
 use Rattle.trace.specs.declared.Operation.{Operation}
 use Rattle.trace.specs.declared.Operation.TheVariants.{Read, Write, Fetch}
@@ -16,14 +17,9 @@ abbrev pub ◌then◌ : {A B : Type 0} → Parsed A → (A → Parsed B) → Par
 ◌then◌ (Ok a) f = f a
 ◌then◌ (Err r) f = Err r
 
-abbrev pub onto_first : ℕ → List (List ℕ) → List (List ℕ)
-onto_first b [] = (b ∷ []) ∷ []
-onto_first b (x ∷ xs) = (b ∷ x) ∷ xs
-
 -- the pieces between the bytes `at`: one more than there are such bytes
 abbrev pub pieces : ℕ → List ℕ → List (List ℕ)
-pieces at [] = [] ∷ []
-pieces at (b ∷ bs) = cond (b == at) ([] ∷ pieces at bs) (onto_first b (pieces at bs))
+pieces at bs = slice_split (λ b. b == at) bs
 
 abbrev pub is_digit : ℕ → Bool
 is_digit b = nat_le 48 b && nat_le b 57

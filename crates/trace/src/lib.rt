@@ -1,12 +1,19 @@
 #![tactic(auto)]
 
-ghost use Rattle.std.specs.Prelude.{◌≡◌, ℕ, Bool, List};
-ghost use Rattle.trace.specs.Items.{same, block_of, number_of, Item};
+ghost use Rattle.std.specs.Prelude.{◌≡◌, ℕ, List};
+ghost use Rattle.trace.specs.Items.{block_of, number_of, Item};
 ghost use Rattle.trace.specs.Next.{Given, Taken};
+ghost use Rattle.trace.specs.Operations.{Reads};
+ghost use Rattle.trace.specs.Records.{code};
+ghost use Rattle.trace.specs.Text.{letter};
 ghost use Rattle.trace.specs.declared.Fault.{Fault};
 
+mod unread;
+
+pub use unread::Unread;
+
 // A block of memory, by its number: an address without its low bits.
-#[derive(Clone, Copy)]
+#[derive(Clone, Copy, PartialEq, Eq)]
 pub struct Block {
     pub number: u32,
 }
@@ -16,30 +23,57 @@ impl Block {
     pub fn of(address: u32, shift: u32) -> Block
         ensures { result ≡ block_of shift address }
     {
-        let number = match address.checked_shr(shift) {
-            Some(number) => number,
-            None => 0,
-        };
-        Block { number }
-    }
-
-    // The one equality of blocks.
-    pub fn is(self, other: Block) -> bool
-        ensures { result ≡ same self other }
-    {
-        self.number == other.number
+        Block {
+            number: address.checked_shr(shift).unwrap_or(0),
+        }
     }
 }
 
-#[derive(Clone, Copy)]
+#[derive(Clone, Copy, PartialEq, Eq)]
 pub enum Operation {
     Read,
     Write,
     Fetch,
 }
 
+// A byte or a letter that names no operation.
+#[derive(Clone, Copy, Debug, PartialEq, Eq)]
+pub struct UnknownOperation;
+
+// The operation that a byte of a record names.
+impl TryFrom<u8> for Operation {
+    type Error = UnknownOperation;
+
+    ghost try_from_gives = { λ byte r. Reads (code byte) r };
+
+    fn try_from(byte: u8) -> Result<Operation, UnknownOperation> {
+        match byte {
+            0 => Ok(Operation::Read),
+            1 => Ok(Operation::Write),
+            2 => Ok(Operation::Fetch),
+            _ => Err(UnknownOperation),
+        }
+    }
+}
+
+// The operation that a line's letter names.
+impl TryFrom<char> for Operation {
+    type Error = UnknownOperation;
+
+    ghost try_from_gives = { λ c r. Reads (letter c) r };
+
+    fn try_from(c: char) -> Result<Operation, UnknownOperation> {
+        match c {
+            'r' => Ok(Operation::Read),
+            'w' => Ok(Operation::Write),
+            'f' => Ok(Operation::Fetch),
+            _ => Err(UnknownOperation),
+        }
+    }
+}
+
 // One line of a trace: which processor did what at which address.
-#[derive(Clone, Copy)]
+#[derive(Clone, Copy, PartialEq, Eq)]
 pub struct Reference {
     pub processor: u32,
     pub operation: Operation,
@@ -47,20 +81,20 @@ pub struct Reference {
 }
 
 // Why a call or a piece of a trace is refused; docs/REFUSALS.md has the table.
-#[derive(Clone, Copy)]
+#[derive(Clone, Copy, Debug, PartialEq, Eq)]
 pub enum Refusal {
-    Setting,
-    Level,
-    ShortTable,
-    Processor,
-    Blocks,
-    Entries,
-    References,
-    Question,
-    Form,
-    Size,
-    CutOff,
-    Input,
+    Setting = 1,
+    Level = 2,
+    ShortTable = 3,
+    Processor = 4,
+    Blocks = 5,
+    Entries = 6,
+    References = 7,
+    Question = 8,
+    Form = 9,
+    Size = 10,
+    CutOff = 11,
+    Input = 12,
 }
 
 impl Refusal {
@@ -68,36 +102,45 @@ impl Refusal {
     pub fn number(self) -> u32
         ensures { result ≡ number_of self }
     {
-        match self {
-            Refusal::Setting => 1,
-            Refusal::Level => 2,
-            Refusal::ShortTable => 3,
-            Refusal::Processor => 4,
-            Refusal::Blocks => 5,
-            Refusal::Entries => 6,
-            Refusal::References => 7,
-            Refusal::Question => 8,
-            Refusal::Form => 9,
-            Refusal::Size => 10,
-            Refusal::CutOff => 11,
-            Refusal::Input => 12,
-        }
+        self as u32
     }
 }
 
+impl From<Refusal> for u32 {
+    ghost from_gives = { λ e r. r ≡ number_of e };
+
+    fn from(e: Refusal) -> u32 {
+        e.number()
+    }
+}
+
+// A refused set-up hands the map back.
+#[derive(Drop)]
+pub struct Refused<M> {
+    pub map: M,
+    pub refusal: Refusal,
+}
+
 // Who found a fault: the source that read the item, or the study that was fed it.
-#[derive(Clone, Copy)]
+#[derive(Clone, Copy, PartialEq, Eq)]
 pub enum Layer {
     Source,
     Study,
 }
 
 // A refused item: why, which one by the source's count, and who refused it.
-#[derive(Clone, Copy)]
+#[derive(Clone, Copy, PartialEq, Eq)]
 pub struct Fault {
     pub refusal: Refusal,
     pub item: u64,
     pub layer: Layer,
+}
+
+// What a feed answers where nothing is refused.
+#[derive(Clone, Copy, PartialEq, Eq)]
+pub enum Fed {
+    Accepted,
+    End,
 }
 
 // Where references come from: it means the items still to come and the count of those answered.

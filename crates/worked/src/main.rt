@@ -2,8 +2,9 @@
 #![tactic(auto)]
 
 use records::Records;
+use report::render;
 use setmap::bit_choice::BitChoice;
-use sheet_report::{evening_sheet, render};
+use sheet_report::evening_sheet;
 use stack::Entry;
 use study::OpenStudy;
 use tables::{Mark, Settings};
@@ -44,6 +45,7 @@ fn show_set_up(rt: &HostRuntime, blocks: u32) -> anyhow::Result<()> {
     Ok(())
 }
 
+// A verb for this page alone: a Display of an operation would tell it to all.
 fn name(operation: Operation) -> &'static str {
     match operation {
         Operation::Read => "reads",
@@ -75,8 +77,8 @@ fn run(rt: &HostRuntime) -> anyhow::Result<()> {
     show_next(rt, &mut Text::new("01,r,0\n".as_bytes()))?;
     show_next(rt, &mut Text::new("1,r,4294967296\n".as_bytes()))?;
     show_next(rt, &mut Records::new(&[0x01, 0x01, 0x00, 0x00, 0x10, 0x00]))?;
-    let sheet = evening_sheet(rt.alloc(), SHEET_INPUT.as_bytes())?;
-    let text = render(rt.alloc(), &sheet)?;
+    let answer = evening_sheet(rt.alloc(), SHEET_INPUT.as_bytes());
+    let text = render(rt.alloc(), &answer)?;
     rt.print(text.as_str())?;
     Ok(())
 }

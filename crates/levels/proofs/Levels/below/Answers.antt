@@ -1,4 +1,4 @@
-use Rattle.std.proofs.Common.{◌≡◌, ℕ, ◌-◌, ◌^◌, ◌<◌, ◌≤◌, min, sym, ap, ◌∙◌, arith}
+use Rattle.std.proofs.Common.{◌≡◌, ℕ, ◌-◌, ◌^◌, ◌<◌, ◌≤◌, min, sym, ap, ◌∙◌, arith, rules}
 use Rattle.levels.specs.declared.Levels.{Levels}
 use Rattle.levels.specs.Levels.{has, below}
 use Rattle.levels.proofs.Bits.{has-below}
@@ -17,7 +17,7 @@ all n l = let m : min n 32 ≡ 32 = omega arith in ap (λ i. of (2 ^ i - 1)) (sy
 
 pub returns-then-n-lt32 : goal.returns-then-n-lt32
 returns-then-n-lt32 c =
-    let e = few c.args.n c.ones.result (omega arith) c.ones.ensures in
+    let e = few c.args.n _ (omega arith) (search rules) in
     record { value = e; levels = λ i l. ap (λ v. has v i) e ∙ has-below c.args.n i l }
 
 pub returns-else-n-lt32 : goal.returns-else-n-lt32

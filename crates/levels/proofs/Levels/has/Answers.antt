@@ -1,4 +1,4 @@
-use Rattle.std.proofs.Common.{sym, ◌∙◌, arith}
+use Rattle.std.proofs.Common.{sym, refl, ◌∙◌, arith}
 use Rattle.std.proofs.lemmas.Bool.{le-ltb}
 use Rattle.levels.specs.Levels.{has}
 use Rattle.levels.proofs.Bits.{has_past}
@@ -6,7 +6,7 @@ use Rattle.levels.proofs.Levels.has.Goals as goal
 
 pub returns-then-level-lt32 : goal.returns-then-level-lt32
 unfolding has
-returns-then-level-lt32 c = c.bit.ensures
+returns-then-level-lt32 c = refl
 
 -- the bits are below 2^32
 pub returns-else-level-lt32 : goal.returns-else-level-lt32

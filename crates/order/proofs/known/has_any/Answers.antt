@@ -1,14 +1,14 @@
-use Rattle.std.proofs.Common.{◌+◌, ◌||◌, drop, ap, ◌∙◌}
-use Rattle.caches.specs.Caches.{among}
-use Rattle.order.proofs.Blocks.{any_more, any_all}
+use Rattle.std.proofs.Common.{rules, ◌||◌, false, ◌∙◌}
+use borrow.Author.Tests.{tests}
+use Rattle.std.proofs.lemmas.Iterator.{YieldsList-from_slice}
+use Rattle.std.proofs.lemmas.Iterator.Consumers.{fold_from_yields_List}
+use Rattle.trace.specs.Items.{same}
+use Rattle.order.proofs.Blocks.{among_fold}
 use Rattle.order.proofs.known.has_any.Goals as goal
 
-pub loop-b-preserved : goal.loop-b-preserved
-loop-b-preserved c =
+pub returns : goal.returns
+returns c =
     let q = c.args.q in
     let xs = c.args.blocks.now in
-    let i = c.loop-b.b-index in
-    ap (λ t. (c.loop-b.any || t) || among q (drop (i + 1) xs)) c.is-any.ensures ∙ any_more q xs c.loop-b.any i c.loop-b.invariant _ c.loop-b-test.true
-
-pub returns : goal.returns
-returns c = any_all c.args.q c.args.blocks.now c.loop-b.any c.loop-b.b-index c.loop-b.invariant c.loop-b-test.false
+    fold_from_yields_List _ (λ any b. any || same b q) false _ c.fold.ensures.ran (YieldsList-from_slice xs cc) (λ any x b f k. search (rules, tests))
+    ∙ among_fold q false xs

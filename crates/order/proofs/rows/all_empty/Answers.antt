@@ -1,14 +1,11 @@
-use Rattle.order.proofs.Stacks.{empty_on, block_there, marker_there, empty_end}
+use Rattle.std.proofs.Common.{rules, ◌∙◌}
+use borrow.Author.Tests.{tests}
+use Rattle.std.proofs.lemmas.Iterator.{YieldsList-from_slice}
+use Rattle.std.proofs.lemmas.Iterator.Search.{all_from_yields_List}
+use Rattle.order.proofs.Stacks.{is_empty, all_empty_list}
 use Rattle.order.proofs.rows.all_empty.Goals as goal
 
-pub returns-in-Block : goal.returns-in-Block
-returns-in-Block c = block_there c.args.es.now c.loop-e.e-index c.loop-e-test.true c.loop-e.invariant _ c.in-Block.is
-
-pub returns-in-Marker : goal.returns-in-Marker
-returns-in-Marker c = marker_there c.args.es.now c.loop-e.e-index c.loop-e-test.true c.loop-e.invariant _ _ c.in-Marker.is
-
-pub loop-e-preserved : goal.loop-e-preserved
-loop-e-preserved c = empty_on c.args.es.now c.loop-e.e-index c.loop-e-test.true c.loop-e.invariant c.in-Empty.is
-
 pub returns : goal.returns
-returns c = empty_end c.args.es.now c.loop-e.e-index c.loop-e-test.false c.loop-e.invariant
+returns c =
+    let es = c.args.es.now in
+    all_from_yields_List is_empty _ _ _ c.all.ensures.ran (YieldsList-from_slice es cc) (λ x b f k. search (rules, tests)) ∙ all_empty_list es

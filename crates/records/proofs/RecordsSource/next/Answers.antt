@@ -6,11 +6,13 @@ use Rattle.records.proofs.RecordsSource.next.Goals as goal
 
 pub returns-in_err-reference : goal.returns-in_err-reference
 returns-in_err-reference c =
-    let xs = c.args.self.now.rest.now in
+    let begun = c.in-Some.ensures in
+    let bytes = c.in-Some.bytes.now in
     let p = err_from_is_err_and c.from_residual.result c.from_residual.ensures.1 in
-    rw (p.1, p.2) (refused xs _ _ (search rules) (take_rest xs 6) _ c.in_err-reference.ensures)
+    rw (p.1, p.2) (refused _ bytes _ _ _ _ begun.1 begun.2 begun.4 (search rules) (take_rest bytes 6) _ c.in_err-reference.ensures)
 
 pub returns : goal.returns
 returns c =
-    let xs = c.args.self.now.rest.now in
-    accepted xs _ _ (search rules) (take_rest xs 6) _ c.in_ok-reference.ensures
+    let begun = c.in-Some.ensures in
+    let bytes = c.in-Some.bytes.now in
+    accepted _ bytes _ _ _ _ begun.1 begun.2 begun.4 (search rules) (take_rest bytes 6) _ c.in_ok-reference.ensures

@@ -1,26 +1,12 @@
-use Rattle.std.proofs.Common.{◌<◌, length, sym, ◌∙◌, arith, rules}
-use Rattle.stack.proofs.Ends.{begins-within}
+use Rattle.std.proofs.Common.{ap, sym, ◌∙◌}
+use Rattle.stack.specs.declared.Entry.TheVariants.{Marker}
 use Rattle.stack.proofs.Losses.{lost_found, lost_absent}
 use Rattle.stack.proofs.lose.lose.Goals as goal
 
-pub offset_bounds-es-walk : goal.offset_bounds-es-walk
-offset_bounds-es-walk g c =
-    let k = c.walk_to-walk.ensures in
-    let w = begins-within _ c.args.es.now (sym k.found_is ∙ c.if-walk.true) in
-    let l : c.walk_to-walk.result.place < length c.args.es.now = omega (arith, k.place_is) in
-    search rules
+pub returns-in-Ok-clause-stretch : goal.returns-in-Ok-clause-stretch
+returns-in-Ok-clause-stretch g c =
+    lost_found c.args.q c.args.levels c.args.es.now c.in-Ok.place _ (sym c.in-Ok.is ∙ c.walk_to-walk.ensures.stop_is) (ap (Marker c.args.q) c.below.ensures.value)
 
-pub bounds-es-walk : goal.bounds-es-walk
-bounds-es-walk g c =
-    let k = c.walk_to-walk.ensures in
-    omega (arith, k.place_is, begins-within _ c.args.es.now (sym k.found_is ∙ c.if-walk.true))
-
-pub returns-then-walk : goal.returns-then-walk
-returns-then-walk g c =
-    let k = c.walk_to-walk.ensures in
-    record { stretch = lost_found c.args.q c.args.levels c.args.es.now _ _ _ k.place_is k.found_is c.if-walk.true c.lost.ensures; walk = k }
-
-pub returns-else-walk : goal.returns-else-walk
-returns-else-walk g c =
-    let k = c.walk_to-walk.ensures in
-    record { stretch = lost_absent c.args.q c.args.levels c.args.es.now _ k.found_is c.if-walk.false; walk = k }
+pub returns-in_default-clause-stretch : goal.returns-in_default-clause-stretch
+returns-in_default-clause-stretch g c =
+    lost_absent c.args.q c.args.levels c.args.es.now (λ p e. c.in_default.not-Ok p (c.walk_to-walk.ensures.stop_is ∙ e))

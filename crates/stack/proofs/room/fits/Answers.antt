@@ -1,4 +1,5 @@
 use Rattle.std.proofs.Common.{◌≡◌, ◌+◌, length, drop, ap, ◌∙◌, arith}
+use Rattle.std.proofs.lemmas.Bool.{lt-ltb}
 use Rattle.stack.specs.Stack.{stack}
 use Rattle.stack.specs.Touch.{resumes}
 use Rattle.stack.proofs.Packs.{packed_len, rest_start, stays_place, packed_le, resumes_le, fits_low, fits_full}
@@ -26,7 +27,7 @@ returns-then-packed_len-rest g c =
     let m = g.M.SetMap.meaning c.args.map.now in
     let p = packed_len m c.args.q c.args.es.now _ c.requires in
     let r = rest_start m c.args.q c.args.es.now _ c.requires in
-    fits_low m c.args.q c.args.es.now (omega (arith, c.packed_len.ensures, c.rest_start-rest.ensures))
+    lt-ltb _ _ c.if-packed_len-rest.true ∙ fits_low m c.args.q c.args.es.now (omega (arith, c.packed_len.ensures, c.rest_start-rest.ensures))
 
 pub returns-else-packed_len-rest : goal.returns-else-packed_len-rest
 returns-else-packed_len-rest g c =

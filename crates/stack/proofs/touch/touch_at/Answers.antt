@@ -2,11 +2,6 @@ use Rattle.std.proofs.Common.{◌∙◌, arith}
 use Rattle.stack.proofs.Packs.{raised_is, raise_fits, packed_len, rest_start, stays_place}
 use Rattle.stack.proofs.touch.touch_at.Goals as goal
 
-pub packed_len-requires : goal.packed_len-requires
-packed_len-requires g c =
-    let s = stays_place (g.M.SetMap.meaning c.args.map.now) c.args.q c.args.es.now _ c.requires.walked in
-    omega arith
-
 pub rest_start-requires : goal.rest_start-requires
 rest_start-requires g c =
     let s = stays_place (g.M.SetMap.meaning c.args.map.now) c.args.q c.args.es.now _ c.requires.walked in

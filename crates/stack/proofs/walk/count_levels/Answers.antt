@@ -1,11 +1,11 @@
 use Rattle.std.proofs.Common.{◌<◌, ◌≢◌, length, arith, get_or-set_other, get_or-set_same, below_more}
-use Rattle.levels.proofs.Bits.{bit_is}
+use Rattle.stack.proofs.Walks.{byte_le, byte_is}
 use Rattle.stack.proofs.walk.count_levels.Goals as goal
 
-pub overflow_add-counts : goal.overflow_add-counts
-overflow_add-counts c =
+pub overflow_add-count : goal.overflow_add-count
+overflow_add-count c =
     let i = c.loop-i.i in
-    omega (arith, c.loop-i.invariant.1 i (omega arith), c.requires.few i c.loop-i-test.true)
+    omega (arith, byte_le c.has.result, c.loop-i.invariant.1 i (omega arith), c.requires.few i (omega (arith, c.requires.deep)))
 
 pub loop-i-preserved : goal.loop-i-preserved
 loop-i-preserved c =
@@ -13,7 +13,7 @@ loop-i-preserved c =
     let lt : i < length c.loop-i.counts = omega (arith, c.requires.deep) in (
       below_more _ _
           (λ k h. let ne : k ≢ c.loop-i.i = omega arith in rw get_or-set_other (c.loop-i.invariant.0 k h))
-          (rw get_or-set_same (omega (arith, c.loop-i.invariant.1 i (omega arith), bit_is c.args.levels i))),
+          (rw get_or-set_same (omega (arith, c.loop-i.invariant.1 i (omega arith), byte_is c.has.result _ c.has.ensures))),
       (λ k h. let ne : k ≢ c.loop-i.i = omega arith in rw get_or-set_other (c.loop-i.invariant.1 k (omega arith))),
     )
 

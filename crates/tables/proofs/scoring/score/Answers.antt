@@ -1,4 +1,5 @@
-use Rattle.std.proofs.Common.{◌≡◌, ◌+◌, ◌*◌, ◌<◌, min, sym, ap, ◌∙◌, arith, rules}
+use Rattle.std.proofs.Common.{◌≡◌, ◌+◌, ◌-◌, ◌*◌, leb, ◌<◌, min, get_or, take, length-take, sym, ap, ◌∙◌, arith, rules}
+use Rattle.std.proofs.lemmas.List.{get_or-take}
 use Rattle.places.specs.Parts.{more}
 use Rattle.stack.specs.Stack.{stack}
 use Rattle.tables.specs.Calls.{scores}
@@ -9,21 +10,24 @@ use Rattle.tables.proofs.scoring.score.Goals.{then-reaches, else-reaches}
 pub loop-i-preserved : goal.loop-i-preserved
 loop-i-preserved c m q es t =
     let i = c.loop-i.i in
-    let h : i < 17 = omega (arith, c.min-i-end.ensures, c.loop-i-test.true) in
+    let k : get_or (take c.min-levels.result c.args.walk.now.positions) i 0 ≡ get_or c.args.walk.now.positions i 0 = get_or-take c.min-levels.result c.args.walk.now.positions i 0 (omega (arith, length-take c.min-levels.result c.args.walk.now.positions, c.loop-i-test.true)) in
+    let h : i < 17 = omega (arith, c.min-levels.ensures, c.loop-i-test.true) in
+    let f = sym c.is_ok.ensures.value ∙ c.if-is_ok.true in
     let e = c.loop-i.invariant m q es t in
+    let r = sym (ap (λ n. leb n c.args.s.ways) k) ∙ sym c.reaches.ensures in
     elim c.if-reaches.branch [
       | then-reaches w ↦
-          (let k = i * c.args.s.ways + w.saturating_sub.result in
-          w.counters-is ∙ w.bump.ensures ∙ ap (λ j. more j c.loop-i.counters) w.saturating_add.ensures ∙ more_capped (c.args.from + k) c.loop-i.counters (search rules)
-          ∙ ap (λ j. more (c.args.from + (i * c.args.s.ways + j)) c.loop-i.counters) w.saturating_sub.ensures
-          ∙ scores_more m c.args.s c.args.from q es _ t i _ _ h c.if-walk.true e (sym w.if-reaches.ensures))
-      | else-reaches w ↦ w.counters-is ∙ scores_past m c.args.s c.args.from q es _ t i _ _ h c.if-walk.true e (sym w.if-reaches.ensures)
+          (let n = i * c.args.s.ways + w.saturating_sub.result in
+          w.counters-is ∙ w.bump.ensures ∙ ap (λ j. more j c.loop-i.counters) w.saturating_add.ensures ∙ more_capped (c.args.from + n) c.loop-i.counters (search rules)
+          ∙ ap (λ j. more (c.args.from + (i * c.args.s.ways + j)) c.loop-i.counters) (w.saturating_sub.ensures ∙ ap (λ n. n - 1) k)
+          ∙ scores_more m c.args.s c.args.from q es _ t i _ _ h f e (r ∙ w.if-reaches.true))
+      | else-reaches w ↦ w.counters-is ∙ scores_past m c.args.s c.args.from q es _ t i _ _ h f e (r ∙ w.if-reaches.false)
     ]
 
 pub returns-after-loop-i : goal.returns-after-loop-i
 returns-after-loop-i c m q es t =
-    let n : c.loop-i.i ≡ min c.args.s.levels 17 = omega (arith, c.min-i-end.ensures, c.loop-i-test.false, c.loop-i.auto.i-end) in
+    let n : c.loop-i.i ≡ min c.args.s.levels 17 = omega (arith, c.min-levels.ensures, t.seventeen, length-take c.min-levels.result c.args.walk.now.positions, c.loop-i-test.false, c.loop-i.auto.i-end) in
     c.loop-i.invariant m q es t ∙ ap (λ j. scores m c.args.s c.args.from q (stack es) j c.args.counters.now) n
 
-pub returns-else-walk : goal.returns-else-walk
-returns-else-walk c m q es t = scores_absent m c.args.s c.args.from q es _ t _ _ (omega arith) c.if-walk.false
+pub returns-else-is_ok : goal.returns-else-is_ok
+returns-else-is_ok c m q es t = scores_absent m c.args.s c.args.from q es _ t _ _ (omega arith) (sym c.is_ok.ensures.value ∙ c.if-is_ok.false)

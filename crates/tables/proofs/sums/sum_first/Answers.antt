@@ -1,10 +1,11 @@
-use Rattle.std.proofs.Common.{◌-◌, ◌^◌, min, sum, sym, ap, ◌∙◌, arith}
-use Rattle.std.proofs.lemmas.List.{take_all}
+use Rattle.std.proofs.Common.{◌≡◌, ◌-◌, ◌^◌, min, length-take, take, sum, ap, ◌∙◌, arith}
+use Rattle.std.proofs.lemmas.List.{take_min}
 use Rattle.tables.proofs.sums.sum_first.Goals as goal
 
-pub returns-else-d-row : goal.returns-else-d-row
-returns-else-d-row c =
+pub returns : goal.returns
+returns c =
+    let t : take c.min.result c.args.row.now ≡ take c.args.d c.args.row.now = ap (λ n. take n c.args.row.now) c.min.ensures ∙ take_min c.args.d c.args.row.now in
     record {
-      value = c.sum_all-else-d-row.ensures.value ∙ sym (ap (λ xs. min (sum xs) (2 ^ 64 - 1)) (take_all c.args.d c.args.row.now c.if-d-row.false));
-      few = omega (arith, c.sum_all-else-d-row.ensures.few);
+      value = c.sum_all.ensures.value ∙ ap (λ xs. min (sum xs) (2 ^ 64 - 1)) t;
+      few = omega (arith, c.sum_all.ensures.few, length-take c.min.result c.args.row.now, c.min.ensures);
     }

@@ -1,14 +1,12 @@
-use Rattle.std.proofs.Common.{arith}
-use Rattle.text.proofs.Counting.{counted_here, counted_more, counted_all, pieces-parts}
+use Rattle.std.proofs.Common.{rules, ◌≡◌, ◌+◌, ◌==◌, sym, ap, ◌∙◌}
+use Rattle.std.proofs.lemmas.List.Splits.{length-slice_split}
+use Rattle.std.specs.List.{count_by}
+use Rattle.text.proofs.Counting.{pieces-parts}
 use Rattle.text.proofs.cut.count_fields.Goals as goal
-use Rattle.text.proofs.cut.count_fields.Goals.{then-b-eq44, else-b-eq44}
-
-pub loop-b-preserved : goal.loop-b-preserved
-loop-b-preserved c =
-    elim c.if-b-eq44.branch [
-      | then-b-eq44 w ↦ let s = counted_here _ _ _ _ c.loop-b.invariant.1 c.loop-b-test.true w.if-b-eq44.true in (omega arith, omega arith)
-      | else-b-eq44 w ↦ let s = counted_more _ _ _ _ c.loop-b.invariant.1 c.loop-b-test.true w.if-b-eq44.false in (omega arith, omega arith)
-    ]
 
 pub returns : goal.returns
-returns c = let e = counted_all _ _ _ _ c.loop-b.invariant.1 c.loop-b-test.false in record { count = e; fields = pieces-parts _ _ _ e }
+returns c =
+    let line = c.args.line.now in
+    let counted : c.count.result ≡ count_by (λ b. b == 44) line = search rules in
+    let e = ap (λ n. n + 1) counted ∙ sym (length-slice_split (λ b. b == 44) line) in
+    record { count = e; fields = pieces-parts _ _ _ e }

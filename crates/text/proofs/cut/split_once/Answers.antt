@@ -1,14 +1,8 @@
-use Rattle.std.proofs.Common.{refl}
-use Rattle.text.proofs.Seeking.{front_is, back_is, parted, whole}
+use Rattle.text.proofs.Seeking.{found, missed}
 use Rattle.text.proofs.cut.split_once.Goals as goal
 
-pub returns-then-end-bytes : goal.returns-then-end-bytes
-returns-then-end-bytes c =
-    let bytes = c.args.bytes.now in
-    let place = c.find_byte-end.ensures in
-    let front = front_is c.args.at c.find_byte-end.result bytes place in
-    let back = back_is c.args.at c.find_byte-end.result bytes place in
-    rw (front, back) (parted _ _ _ place c.if-end-bytes.true, refl, refl)
+pub returns-in_err-place : goal.returns-in_err-place
+returns-in_err-place c = rw c.from_residual.ensures (missed c.args.at c.args.bytes.now c.in_err-place.ensures)
 
-pub returns-else-end-bytes : goal.returns-else-end-bytes
-returns-else-end-bytes c = whole _ _ _ c.find_byte-end.ensures c.if-end-bytes.false
+pub returns : goal.returns
+returns c = found c.args.at c.args.bytes.now c.in_ok-place.place c.in_ok-place.ensures

@@ -1,15 +1,17 @@
-use Rattle.std.proofs.Common.{◌≡◌, ℕ, ◌^◌, ◌<◌, sym, ap, arith, pow_mono}
+use Rattle.std.proofs.Common.{◌≡◌, ℕ, ◌^◌, ◌<◌, ◌/◌, Option, Some, None, ap, sym, ◌∙◌, arith, pow_mono}
 use native.Mathlib.Nat.{div-eq_of_lt}
-use Rattle.trace.specs.declared.Block.{Block}
+use Rattle.std.specs.Option.{SomeIff, unwrap_or}
 use Rattle.trace.proofs.Block.of.Goals as goal
 
-block_zero : (n : ℕ) → n ≡ 0 → ◌≡◌ {A = Block} (record { number = 0 }) (record { number = n })
-block_zero n e = ap (λ k. record { number = k }) (sym e)
+-- an address is below 2^32, so no bit of it is left of a shift that is too far
+shifted : (address shift : ℕ) (r : Option ℕ) → address < 2 ^ 32 → SomeIff r (shift < 32) (address / 2 ^ shift) → unwrap_or r 0 ≡ address / 2 ^ shift
+shifted address shift (Some n) small s = s.1
+shifted address shift None small s =
+    let far : shift < 32 → ⊥ = s in
+    let large = pow_mono {i = 32} {j = shift} (grind arith) in
+    sym (div-eq_of_lt (omega arith))
 
--- an address is below 2^32, so no bit of it is left
-pub returns-in-None : goal.returns-in-None
-returns-in-None c =
-    let far = c.in-None.ensures in
-    let small : c.args.address < 2 ^ 32 = omega arith in
-    let large = pow_mono {i = 32} {j = c.args.shift} (omega arith) in
-    block_zero _ (div-eq_of_lt (omega arith))
+pub returns : goal.returns
+returns c =
+    let e = c.unwrap_or.ensures ∙ shifted c.args.address c.args.shift c.checked_shr.result (omega arith) c.checked_shr.ensures in
+    ap (λ (n : ℕ). record { number = n }) e

@@ -1,54 +1,43 @@
-use Rattle.std.proofs.Common.{◌≡◌, false, map, length, vec_items, sym, refl, ap, ◌∙◌}
+use Rattle.std.proofs.Common.{◌≡◌, ◌+◌, [], Ok, vec_items, sym, refl, ◌∙◌, subst, rules, arith}
 use Rattle.std.proofs.lemmas.Result.{IfOk-weaker}
 use Rattle.tables.specs.Tables.{tables_of}
-use Rattle.tables.specs.Calls.{short}
-use Rattle.sheets.specs.Sheets.{fault_line}
-use Rattle.study.proofs.Lengths.{short_same}
-use Rattle.sheets.proofs.Steps.{lists_lent, lists_back, all_answered, fed_reached, fed_lines}
+use Rattle.tables.specs.Bulk.{standing_of, FedThrough}
+use Rattle.study.specs.Steps.{kept_of}
+use Rattle.sheets.specs.Sheets.{reading}
+use Rattle.sheets.specs.Steps.{lists_of, Reached}
+use Rattle.sheets.proofs.Steps.{lists_back, all_answered, leads}
 use Rattle.sheets.proofs.owning.SheetStudy.feed_all.Goals as goal
 
-pub invariant_of-self : goal.invariant_of-self
-invariant_of-self g c =
+pub returns : goal.returns
+returns g c =
     let self = c.args.self.now in
-    let t = self.tables in
-    let last = c.feed_all-fed.new in
-    let kept = c.feed_all-fed.auto in
-    let e = c.feed_all-fed.ensures in
-    let back = lists_back t last.entries last.known last.marks last.counters
-    (kept.entries ∙ c.as_mut_slice.ensures.len) (kept.known ∙ c.as_mut_slice-2.ensures.len) (kept.marks ∙ c.as_mut_slice-3.ensures.len) (kept.counters ∙ c.as_mut_slice-4.ensures.len) in
-    let long : short self.settings (tables_of last.entries last.known last.marks last.counters) ≡ false =
-    short_same self.settings (vec_items t.entries) last.entries (vec_items t.known) last.known (vec_items t.marks) last.marks (vec_items t.counters) last.counters
-    (kept.entries ∙ ap length c.as_mut_slice.ensures.value) (kept.known ∙ ap length c.as_mut_slice-2.ensures.value) (kept.marks ∙ ap length c.as_mut_slice-3.ensures.value) (kept.counters ∙ ap length c.as_mut_slice-4.ensures.value)
-    self.long in
-    record { same_map = self.same_map ∙ sym e.map; same_settings = self.same_settings ∙ sym e.settings; long = ap (short self.settings) back ∙ long; wide = self.wide }
-
-pub returns-in-Ok : goal.returns-in-Ok
-returns-in-Ok g c =
-    let self = c.args.self.now in
-    let t = self.tables in
-    let mean = g.M.SetMap.meaning in
-    let m = mean self.map in
+    let m = g.M.SetMap.meaning self.map in
     let s = self.settings in
-    let law = g.met.M.SetMap.lawful self.map in
-    let last = c.feed_all-fed.new in
-    let kept = c.feed_all-fed.auto in
+    let last = c.feed_all_on-fed.new in
     let items = g.S.Source.items c.args.source.now in
     let n = g.S.Source.answered c.args.source.now in
-    let back = lists_back t last.entries last.known last.marks last.counters
-    (kept.entries ∙ c.as_mut_slice.ensures.len) (kept.known ∙ c.as_mut_slice-2.ensures.len) (kept.marks ∙ c.as_mut_slice-3.ensures.len) (kept.counters ∙ c.as_mut_slice-4.ensures.len) in
-    let lent = lists_lent t c.as_mut_slice.result.now c.as_mut_slice-2.result.now c.as_mut_slice-3.result.now c.as_mut_slice-4.result.now
-    c.as_mut_slice.ensures.value c.as_mut_slice-2.ensures.value c.as_mut_slice-3.ensures.value c.as_mut_slice-4.ensures.value in
-    let same_map = ap mean (sym self.same_map) in
-    let same_settings = sym self.same_settings in
-    let through = c.in-Ok.ensures.through in
+    let fed : c.feed_all_on-fed.result ≡ Ok tt = search rules in
+    let t' = tables_of last.entries last.known last.marks last.counters in
+    let kept = kept_of self.study.known self.study.accepted in
+    let kept' = kept_of last.study.known last.study.accepted in
+    let before = standing_of kept (tables_of c.as_mut_slice.result.now c.as_mut_slice-2.result.now c.as_mut_slice-3.result.now c.as_mut_slice-4.result.now) items n (vec_items c.none-faults.result.list) in
+    let after = standing_of kept' t' (g.S.Source.items last.source) (g.S.Source.answered last.source) (vec_items last.faults.list) in
+    let raw : FedThrough (g.M.SetMap.meaning self.study.setup.map) self.study.setup.settings before after (Ok tt) = search rules in
+    let lent : before ≡ standing_of kept (lists_of self.tables) items n [] = search rules in
+    let through : FedThrough m s (standing_of kept (lists_of self.tables) items n []) after (Ok tt) =
+    subst (λ z. FedThrough m s z after (Ok tt)) lent (rw (self.same_map, self.same_settings) raw) in
+    let back = lists_back self.tables last.entries last.known last.marks last.counters (omega arith) (omega arith) (omega arith) (omega arith) in
+    let put = leads m s kept kept' (lists_of self.tables) t' items (g.S.Source.items last.source) n (g.S.Source.answered last.source) (vec_items last.faults.list) through
+    (g.met.M.SetMap.lawful self.map) self.wide in
     record {
-      through = IfOk-weaker c.refused_lines.result _ _
-          (λ v same h accepted. (
-            (accepted.0, fed_reached m (mean self.study.map) same_map s self.study.settings same_settings _ _ _ lent _ _ _ back items _ n _ _ _ c.new.ensures.items through law self.wide h accepted.0 accepted.1),
-            same ∙ ap (map fault_line) c.as_slice.ensures.value ∙ fed_lines m (mean self.study.map) same_map s self.study.settings same_settings _ _ _ lent _ _ _ back items _ n _ _ _ c.new.ensures.items through law self.wide h accepted.0 accepted.1,
-          ))
-          c.refused_lines.ensures;
+      through = IfOk-weaker c.lines.result _ _
+          (λ v same h accepted.
+          (let led = put h accepted.0 accepted.1 in (
+            (accepted.0, subst (Reached m s accepted.0 (reading s (n + 1) items h).history kept') (sym back) led.reached),
+            same ∙ led.lines,
+          )))
+          c.lines.ensures;
       map = refl;
       settings = refl;
-      answered = IfOk-weaker c.refused_lines.result _ _ (λ v same. all_answered m (mean self.study.map) same_map s self.study.settings same_settings _ _ _ lent _ _ _ back items _ n _ _ _ c.new.ensures.items through) c.refused_lines.ensures;
+      answered = IfOk-weaker c.lines.result _ _ (λ v same. all_answered m s kept kept' (lists_of self.tables) t' items _ n _ _ through) c.lines.ensures;
     }
