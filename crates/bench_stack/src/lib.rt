@@ -9,7 +9,7 @@ use stack::touch::touch;
 use stack::walk::Walk;
 use trace::Block;
 
-// A reference's position at a level, or 0 where it found none.
+// A reference's position at a level, or 0 where it found none, which adds nothing to the sum.
 fn read_at(answer: Option<Walk>, level: usize) -> u64
     ensures { result ≡ read_at level answer }
 {
@@ -19,6 +19,7 @@ fn read_at(answer: Option<Walk>, level: usize) -> u64
 }
 
 // Refers to the blocks of a ring, one after the other: once each block was met, every reference walks down the whole ring.
+// The positions are read at the seventeen levels in turn.
 #[unsafe(no_mangle)]
 pub extern "C" fn bench_stack_ring(blocks: u32, references: u32) -> u64
     ensures { result ≡ total (max blocks 1) references }

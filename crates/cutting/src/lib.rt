@@ -37,6 +37,7 @@ pub fn whole_items(form: Form, bytes: &[u8]) -> usize
     ensures cut { Cut form bytes.now result }
     ensures rest { LeftOver form (drop result bytes.now) }
 {
+    // The form is a caller's data: a closure in its place would still be picked by a match on it.
     match form {
         Form::Text => whole_lines(bytes),
         Form::Records => whole_records(bytes.len()),

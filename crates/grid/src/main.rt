@@ -3,7 +3,7 @@
 use anyhow::anyhow;
 use grid_report::{Grid, OpenError};
 use rendering::Lines;
-use report::{Map, Report};
+use report::Map;
 use setmap::SetMap;
 use setmap::bit_choice::BitChoice;
 use setmap::thirds::Thirds;
@@ -49,6 +49,7 @@ fn read_trace<M: SetMap + Copy, R: Read>(
         let text = Lines(lines.as_slice()).to_string(rt.alloc())?;
         rt.print(text.as_str())?;
         bytes = bytes.saturating_add(read as u64);
+        // Asked at each piece: two loops, or a closure that prints, would be longer.
         if progress && turn % TOLD == 0 {
             eprintln!(rt; "{bytes} bytes read")?;
         }
@@ -76,8 +77,7 @@ fn fill_grid<M: SetMap + Copy + Drop>(
         }
         None => read_trace(rt, &mut grid, &mut rt.stdin(), request.progress)?,
     }
-    let (refused, rows) = grid.finish(rt.alloc())?;
-    let text = Report { refused, rows }.to_string(rt.alloc())?;
+    let text = grid.finish(rt.alloc())?.to_string(rt.alloc())?;
     rt.print(text.as_str())?;
     Ok(())
 }
@@ -85,6 +85,7 @@ fn fill_grid<M: SetMap + Copy + Drop>(
 fn run(rt: &HostRuntime) -> anyhow::Result<()> {
     let request = read_words(rt)?;
     let chosen = read_settings(request.settings.as_bytes()).map_err(OpenError::Refused)?;
+    // Map by map, since a closure is not generic in the map.
     match chosen.map {
         Map::BitChoice => fill_grid(rt, BitChoice, chosen.sizes, &request),
         Map::Thirds => fill_grid(rt, Thirds, chosen.sizes, &request),

@@ -55,6 +55,7 @@ impl From<Refusal> for OpenError {
     }
 }
 
+// Once for each error, since ? asks it of the type.
 impl From<AllocError> for OpenError {
     ghost from_gives = { λ _ r. r ≡ opening.NoMemory };
 

@@ -45,6 +45,7 @@ impl<M: SetMap + Copy> Grid<M> {
         self.count
             .checked_add(bytes.len() as u64)
             .ok_or(ReadError::TooLong)?;
+        // The form is asked anew: a source lends its bytes, so each piece has its own.
         match self.form {
             Form::Text => Ok(self.feed_from(heap, Text::after(bytes, self.count))?),
             Form::Records => Ok(self.feed_from(heap, Records::after(bytes, self.count))?),

@@ -5,7 +5,7 @@ ghost use Rattle.sheets.specs.Sheets.{rows};
 
 use super::{Grid, ReadError};
 use cutting::whole_items;
-use report::RefusedLine;
+use report::{RefusedLine, Report};
 use setmap::SetMap;
 use sheets::Row;
 use std::alloc::Global;
@@ -26,14 +26,14 @@ impl<M: SetMap + Copy> Grid<M> {
         self.feed_bytes(heap, items.as_slice())
     }
 
-    // The end of the trace: what is held is its last item, cut off. Gives what is refused at the end, and a row for each processor, level and number of ways.
-    pub fn finish(mut self, heap: Global) -> Result<(Vec<RefusedLine>, Vec<Row>), ReadError>
-        ensures { elim result [ Ok x ↦ ((bytes : List ℕ) (refused : List RefusedItem) → HasRead (M.meaning self.study.map) self bytes refused → (refused ++ x.0.items ≡ (trace_reading self.study.settings self.form bytes).refused) × (x.1.items ≡ rows (M.meaning self.study.map) (trace_reading self.study.settings self.form bytes).history self.study.settings.levels self.study.settings.ways self.study.settings.processors)) | Err y ↦ NotRead (self.count + vec_len self.held) y ] }
+    // The end of the trace: what is held is its last item, cut off. The report has what is refused at the end, and a row for each processor, level and number of ways.
+    pub fn finish(mut self, heap: Global) -> Result<Report<Row>, ReadError>
+        ensures { elim result [ Ok x ↦ ((bytes : List ℕ) (refused : List RefusedItem) → HasRead (M.meaning self.study.map) self bytes refused → (refused ++ x.refused.items ≡ (trace_reading self.study.settings self.form bytes).refused) × (x.rows.items ≡ rows (M.meaning self.study.map) (trace_reading self.study.settings self.form bytes).history self.study.settings.levels self.study.settings.ways self.study.settings.processors)) | Err y ↦ NotRead (self.count + vec_len self.held) y ] }
     {
         let held = mem::replace(&mut self.held, Vec::new(heap));
         let refused = self.feed_bytes(heap, held.as_slice())?;
         let Grid { study, .. } = self;
         let rows = study.finish(heap)?;
-        Ok((refused, rows))
+        Ok(Report { refused, rows })
     }
 }

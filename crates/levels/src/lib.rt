@@ -3,6 +3,9 @@
 ghost use Rattle.std.specs.Prelude.{◌≡◌, ℕ, ◌<◌, false, not, ◌&&◌, ◌||◌, nat_lt};
 ghost use Rattle.levels.specs.Levels.{has, no_level, below, both, either, less, is_none};
 
+// A map offers so many levels at most. Clauses write the number.
+pub const LEVELS: usize = 17;
+
 // A set of levels: bit i stands for level i.
 #[derive(Clone, Copy, PartialEq, Eq)]
 pub struct Levels {
@@ -10,6 +13,7 @@ pub struct Levels {
 }
 
 // Methods and no operators, whose contract is one clause with no name.
+// Those of two sets differ in the operation and its definition alone: one for all would take both from its caller.
 impl Levels {
     pub fn none() -> Levels
         ensures value { result ≡ no_level }

@@ -48,6 +48,7 @@ impl Hints {
 
     // The place of a block among known ones that are distinct. A block that is not known is noted too: if it comes to be
     // known, it stands at just the place behind them.
+    // That they are distinct is a premise: they are the caller's slice.
     pub fn find(&mut self, known: &[Block], q: Block) -> Option<usize>
         ensures value { Distinct known.now → unwrap_or result (length known.now) ≡ place_of q known.now }
         ensures within { IfSome result (λ k. k < length known.now) }
@@ -77,6 +78,7 @@ impl Hints {
 
     // Notes a place for q in one slot; a larger place is let go. Which slot is not said: a hint is a guess,
     // and whatever it says, what is found by it is right.
+    // Compared and cast, since `u16::try_from` would take place 65,535 too.
     pub fn note(&mut self, q: Block, place: usize)
         ensures noted { place < PLACES → SomeIndex self.old.places (λ k. self.new.places ≡ slice_set self.old.places k (Some place)) }
         ensures too_large { PLACES ≤ place → self.new ≡ self.old }

@@ -35,7 +35,7 @@ pub fn has(blocks: &[Block], q: Block) -> bool
     place(blocks, q).is_some()
 }
 
-// Whether no block stands twice.
+// Whether no block stands twice: a list looked through, since a set of the blocks would need the heap.
 pub fn no_repeat(known: &[Block]) -> bool
     ensures value { result ≡ no_repeat known.now }
 {

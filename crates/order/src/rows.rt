@@ -10,8 +10,8 @@ use std::mem;
 use tables::Mark;
 use trace::Block;
 
-// A study knows so many blocks at most. A flag for each is fixed memory: the study takes nothing from the heap.
-const MOST: usize = 4096;
+// A study knows so many blocks at most; clauses write the number. A flag for each is fixed memory: the study takes nothing from the heap.
+pub const MOST: usize = 4096;
 
 // Whether a block's mark says held; one that has no mark has had no reference.
 pub fn is_held(marks: &[Mark], at: usize) -> bool

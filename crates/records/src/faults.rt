@@ -3,7 +3,7 @@ ghost use Rattle.records.specs.Faults.{of_source};
 
 use trace::{Fault, Layer, Refusal};
 
-// A refused record: why, and which one by the source's count.
+// A refused record: why, and which one by the source's count. It is the reader's own layer, which becomes a Fault by ?.
 #[derive(Clone, Copy, PartialEq, Eq)]
 pub struct RecordFault {
     pub refusal: Refusal,

@@ -12,6 +12,7 @@ mod references;
 pub mod worked;
 
 // The references of a trace in its binary form: six bytes for each.
+// A type of its own beside the text's, since other bytes mean the items, and each contract says which.
 #[derive(Drop)]
 pub struct Records<'a> {
     unread: Unread<'a>,
@@ -48,6 +49,7 @@ impl<'a> Source for Records<'a> {
         let Some((bytes, item)) = self.unread.begin_item() else {
             return Ok(None);
         };
+        // a record's bytes by name, in their order
         let [processor, operation, a3, a2, a1, a0, rest @ ..] = bytes else {
             return Err(Fault::from(RecordFault {
                 refusal: Refusal::CutOff,

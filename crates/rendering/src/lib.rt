@@ -1,7 +1,7 @@
 #![tactic(auto)]
 
 ghost use Rattle.std.specs.Prelude.{Some};
-ghost use Rattle.rendering.specs.Lines.{after_commas, joined, shown_lines};
+ghost use Rattle.rendering.specs.Lines.{after_commas, joined, shown_lines, titled};
 
 use std::fmt;
 
@@ -17,6 +17,19 @@ impl fmt::Display for AfterCommas<'_> {
             write!(f, ",{number}")?;
         }
         Ok(())
+    }
+}
+
+// A title, and numbers after it.
+#[derive(Clone, Copy)]
+pub struct Titled<'a>(pub &'a str, pub &'a [u64]);
+
+impl fmt::Display for Titled<'_> {
+    ghost output = { λ s. Some (titled s.0.now s.1.now) };
+
+    fn fmt<W: fmt::Write>(&self, f: &mut fmt::Formatter<W>) -> fmt::Result {
+        let numbers = AfterCommas(self.1);
+        write!(f, "{}{numbers}", self.0)
     }
 }
 

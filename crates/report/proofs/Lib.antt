@@ -1,2 +1,2 @@
-mod Shown
+mod Written
 mod Inputs

@@ -19,6 +19,7 @@ impl fmt::Display for ReportError {
     }
 }
 
+// As for each error of a call that takes memory, since ? asks it of the type.
 impl From<AllocError> for ReportError {
     ghost from_gives = { λ e r. r ≡ NoMemory e };
 

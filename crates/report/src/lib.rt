@@ -8,7 +8,7 @@ ghost use Rattle.report.specs.Settings.{map_field, letter_map};
 use std::alloc::AllocError;
 use std::fmt;
 use text::cut::take_field;
-use trace::Refusal;
+use trace::{Fault, Refusal};
 
 mod errors;
 mod input;
@@ -54,7 +54,7 @@ pub fn take_map(line: &[u8]) -> Result<(Map, &[u8]), Refusal>
     Ok((map, rest))
 }
 
-// A refused line of the input, by its number from 1, or 0 for the input as a whole.
+// A refused line of the input, by its number from 1, or 0 for the input as a whole, as it is written: refused,0,12.
 #[derive(Clone, Copy, PartialEq, Eq)]
 pub struct RefusedLine {
     pub line: u64,
@@ -69,6 +69,15 @@ impl RefusedLine {
     }
 }
 
+// Where the source counts lines, an item's number is its line's.
+impl From<Fault> for RefusedLine {
+    ghost from_gives = { λ fault r. r ≡ refused_line fault.item fault.refusal };
+
+    fn from(fault: Fault) -> RefusedLine {
+        RefusedLine::new(fault.item, fault.refusal)
+    }
+}
+
 // A row of a report, which writes itself without its line feed.
 pub trait Row: fmt::Display {
     ghost heading: { List ℕ };
@@ -80,6 +89,13 @@ pub trait Row: fmt::Display {
         ensures { result.now ≡ heading };
 
     ghost shows: { (x : Self) → Self.output x ≡ Some (text x) };
+}
+
+// Refused lines and rows, to be written.
+#[derive(Clone, Copy)]
+pub struct Shown<'a, R> {
+    pub refused: &'a [RefusedLine],
+    pub rows: &'a [R],
 }
 
 // Refused lines, and rows.

@@ -3,6 +3,7 @@
 use report::{read_input, render};
 use sheet_report::evening_sheet;
 
+// As in spot: one function for both would take the report as a closure, and the host's streams into a library.
 fn run(rt: &HostRuntime) -> anyhow::Result<()> {
     let input = read_input(rt.alloc(), rt.stdin())?;
     let answer = evening_sheet(rt.alloc(), input.as_slice());

@@ -59,11 +59,11 @@ first_line (Ok x) items =
     let s = settings_of x.sizes in
     unless_settings (settings_refusal m s) (studied m s items)
 
--- the evening sheet of an input
 abbrev pub lines_content : Result (List ℕ × List (List ℕ)) RefusedLine → Content Row
 lines_content (Err x) = alone x
 lines_content (Ok (l, ls)) = first_line (chosen (pieces 44 l)) (line_items ls)
 
+-- the evening sheet of an input
 abbrev pub evening : List ℕ → Content Row
 evening bytes = lines_content (input_lines bytes)
 

@@ -24,6 +24,7 @@ const MARKS: usize = 4_096;
 const COUNTERS: usize = 8_192;
 
 // A trace put to a study of these sizes on the map, with the sheet's tables.
+// The heap is lent to each of these, and each asks for the bound that split_input's clause gives the trace.
 fn study_trace<M: SetMap + Copy>(
     heap: Global,
     map: M,
@@ -42,7 +43,7 @@ fn study_trace<M: SetMap + Copy>(
     Ok(Report { refused, rows })
 }
 
-// A trace put to the study that line 1 asks for.
+// A trace put to the study that line 1 asks for, map by map, since a closure is not generic in the map.
 fn study_chosen(heap: Global, chosen: Chosen, trace: &[u8]) -> Result<Report<Row>, ReportError>
     requires { length trace.now ≤ 65536 }
     ensures { Answered (first_line (Ok chosen) (text_items trace.now)) result }
@@ -53,7 +54,7 @@ fn study_chosen(heap: Global, chosen: Chosen, trace: &[u8]) -> Result<Report<Row
     }
 }
 
-// The evening sheet of a program's input.
+// The evening sheet of a program's input. One function for this and the spot check would be longer than its three lines.
 pub fn evening_sheet(heap: Global, input: &[u8]) -> Result<Report<Row>, ReportError>
     ensures { Answered (evening input.now) result }
 {

@@ -26,7 +26,7 @@ impl Faults {
     {
         self.list
             .iter()
-            .map(|fault| RefusedLine::new(fault.item, fault.refusal))
+            .map(|fault| RefusedLine::from(*fault))
             .collect(heap)
     }
 }

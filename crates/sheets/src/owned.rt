@@ -5,7 +5,7 @@ use std::alloc::{AllocError, Global};
 use tables::Mark;
 use trace::Block;
 
-// The tables of a study that owns them.
+// The tables of a study that owns them: four lists, since a study is lent four slices.
 #[derive(Drop)]
 pub struct OwnTables {
     pub(super) entries: Vec<Entry>,

@@ -11,7 +11,7 @@ use std::alloc::{AllocError, Global};
 use study::ClosedStudy;
 use tables::{SeenTables, Settings};
 
-// A closed study with the tables that it was fed on.
+// A closed study with the tables that it was fed on. Its map and settings stand beside it as in the open one, since the study shows them to no caller.
 #[derive(Drop)]
 pub(super) struct ClosedSheet<'a, M: SetMap> {
     pub(super) map: M,
@@ -24,7 +24,7 @@ pub(super) struct ClosedSheet<'a, M: SetMap> {
 }
 
 impl<'a, M: SetMap> ClosedSheet<'a, M> {
-    // The figures of a cache of the study.
+    // The figures of a cache of the study. The loops below say that there is one; a type for that would be made and taken apart at once.
     fn figures(&self, p: u32, level: u32, ways: u32) -> Figures
         requires asked { (1 ≤ p) × (p ≤ self.now.settings.processors) × (level < self.now.settings.levels) × (1 ≤ ways) × (ways ≤ self.now.settings.ways) }
         ensures { counted (M.meaning self.now.map) self.now.settings (seen self.now.tables) p level ways ≡ Ok result }

@@ -43,6 +43,7 @@ impl<M: SetMap + Copy> SheetStudy<M> {
     }
 
     // Puts a source to the study, to its end, and gives its refused items by their numbers. Only want of memory is an error.
+    // Map and settings stay, by a clause each, since a caller's proof takes one or the other.
     pub fn feed_all<S: Source>(
         &mut self,
         heap: Global,

@@ -1,3 +1,4 @@
+// Beside the study and not under one form with it: with other settings and other tables, what the two share would be generic over both.
 #![tactic(auto)]
 
 use setup::Setup;

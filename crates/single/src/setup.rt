@@ -12,6 +12,7 @@ use setmap::SetMap;
 use trace::{Block, Refusal, Refused};
 
 // What a cache is set up with: a map, and settings within their limits.
+// Only what makes one, or is asked before there is one, takes the map and the settings apart.
 #[derive(Drop)]
 pub(super) struct Setup<M: SetMap> {
     pub(super) map: M,
@@ -28,6 +29,7 @@ pub(super) fn cache_frames<M: SetMap>(map: &M, s: Settings) -> usize
 }
 
 // Where processor p's counters begin: references, hits, drops.
+// Not one function with the study's start of a part: a public one asks nothing of its callers, and would answer for no processor too.
 pub(super) fn counters_start(p: u32) -> usize
     requires { 1 ≤ p }
     ensures value { result ≡ start 3 p }

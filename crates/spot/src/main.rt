@@ -3,6 +3,7 @@
 use report::{read_input, render};
 use spot_report::spot_check;
 
+// As in sheet: one function for both would take the report as a closure, and the host's streams into a library.
 fn run(rt: &HostRuntime) -> anyhow::Result<()> {
     let input = read_input(rt.alloc(), rt.stdin())?;
     let answer = spot_check(rt.alloc(), input.as_slice());

@@ -91,16 +91,16 @@ module _ (m : Mapping) (s : Settings) (t₀ : Tables) where
           | inr o ↦ (let none : reference_refusal m s k t r.processor ≡ None = only_processor m s k t r long room ∙ rw o in rw o (access s r ∷ h, reached_more h k t r none reached, rw o at to, rw o at lines))
         ]
 
-    -- a refused line more, where the line is the item's number and one
-    module _ (same_line : n + 1 ≡ line) where
-      one_line : (x : Refusal) (f : Fault) (rest : List RefusedLine) → f.refusal ≡ x → f.item ≡ n → refused ++ (refused_line line x ∷ rest) ≡ R → (refused ++ (refused_line (f.item + 1) f.refusal ∷ [])) ++ rest ≡ R
+    -- a refused line more, where the line is the item's number
+    module _ (same_line : n ≡ line) where
+      one_line : (x : Refusal) (f : Fault) (rest : List RefusedLine) → f.refusal ≡ x → f.item ≡ n → refused ++ (refused_line line x ∷ rest) ≡ R → (refused ++ (refused_line f.item f.refusal ∷ [])) ++ rest ≡ R
       one_line x f rest a b e =
-          append_assoc refused (refused_line (f.item + 1) f.refusal ∷ []) rest
-          ∙ ap (λ y. refused ++ (refused_line (f.item + 1) y ∷ rest)) a
-          ∙ ap (λ i. refused ++ (refused_line i x ∷ rest)) (ap (λ i. i + 1) b ∙ same_line) ∙ e
+          append_assoc refused (refused_line f.item f.refusal ∷ []) rest
+          ∙ ap (λ y. refused ++ (refused_line f.item y ∷ rest)) a
+          ∙ ap (λ i. refused ++ (refused_line i x ∷ rest)) (b ∙ same_line) ∙ e
 
       pub underway_fault : (items : List Item) (f : Fault) → Err f ≡ fed_answer s items n → Underway H R items line k t refused
-          → Underway H R (drop 1 items) (line + 1) (fed_accepted s items k) (fed_tables m s items t) (refused ++ (refused_line (f.item + 1) f.refusal ∷ []))
+          → Underway H R (drop 1 items) (line + 1) (fed_accepted s items k) (fed_tables m s items t) (refused ++ (refused_line f.item f.refusal ∷ []))
       underway_fault [] f e u = cc
       underway_fault (bad x ∷ items) f e (h, reached, to, lines) =
           let is : f ≡ record { refusal = x; item = n; layer = Source } = cc in

@@ -24,7 +24,7 @@ reached_first m s t e = ([], [], ap (after_set_up s m t) e)
 
 -- what the parts of a spot check make, put together
 module _ (m : Mapping) (s : Settings) (t : Tables) (accepted : set_up_refusal m s t ≡ None) (items : List Item) (k' : ℕ) (t' : Tables) (refused : List RefusedLine)
-    (through : PutThrough m s (standing_of items 0 0 (cleared m s t)) [] k' t' refused) where
+    (through : PutThrough m s (standing_of items 1 0 (cleared m s t)) [] k' t' refused) where
   pub put_whole : (v : List Row) → ((t₀ : Tables) (h : History) → Reached m s t₀ h k' t' → v ≡ rows m s h s.processors) → whole refused v ≡ spotted_on m s items
   put_whole v f =
       let x = through t [] (reached_first m s t accepted) in
@@ -32,6 +32,6 @@ module _ (m : Mapping) (s : Settings) (t : Tables) (accepted : set_up_refusal m 
 
 -- what the cache, the source and the tables are after a set-up
 pub through_after : (m m₁ : Mapping) (s s₁ : Settings) → m₁ ≡ m → s₁ ≡ s → (items items₁ : List Item) (n k k' : ℕ) (t t₁ t' : Tables) (refused₁ refused' : List RefusedLine)
-    → items₁ ≡ items → n ≡ 0 → k ≡ 0 → t₁ ≡ t → refused₁ ≡ []
-    → PutThrough m₁ s₁ (standing_of items₁ n k t₁) refused₁ k' t' refused' → PutThrough m s (standing_of items 0 0 t) [] k' t' refused'
+    → items₁ ≡ items → n ≡ 1 → k ≡ 0 → t₁ ≡ t → refused₁ ≡ []
+    → PutThrough m₁ s₁ (standing_of items₁ n k t₁) refused₁ k' t' refused' → PutThrough m s (standing_of items 1 0 t) [] k' t' refused'
 through_after m m₁ s s₁ em es items items₁ n k k' t t₁ t' refused₁ refused' ei en ek et er p = rw (em, es, ei, en, ek, et, er) at p

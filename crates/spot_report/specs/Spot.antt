@@ -42,11 +42,11 @@ abbrev pub first_line : Parsed Chosen → List Item → Content Row
 first_line (Err x) items = only 1 x
 first_line (Ok x) items = unless_settings (settings_refusal (mapping x.map) x.settings) (spotted_on (mapping x.map) x.settings items)
 
--- the report of an input
 abbrev pub lines_content : Result (List ℕ × List (List ℕ)) RefusedLine → Content Row
 lines_content (Err x) = alone x
 lines_content (Ok (l, ls)) = first_line (chosen (pieces 44 l)) (line_items ls)
 
+-- the report of an input
 abbrev pub spot_check : List ℕ → Content Row
 spot_check bytes = lines_content (input_lines bytes)
 

@@ -57,4 +57,4 @@ Reached m s t₀ h k t = (calls : List Call) × (said : List Said) × (run m s t
 abbrev pub PutThrough : Mapping → Settings → (before : Standing) (refused : List RefusedLine) → (accepted : ℕ) (tables : Tables) (refused' : List RefusedLine) → Type 0
 PutThrough m s before refused accepted tables refused' =
     (t₀ : Tables) (h : History) → Reached m s t₀ h before.accepted before.tables
-    → Reached m s t₀ (reading s (before.answered + 2) before.items h).history accepted tables × (refused' ≡ refused ++ (reading s (before.answered + 2) before.items h).refused)
+    → Reached m s t₀ (reading s (before.answered + 1) before.items h).history accepted tables × (refused' ≡ refused ++ (reading s (before.answered + 1) before.items h).refused)

@@ -20,6 +20,7 @@ use std::alloc::Global;
 use text::source::Text;
 
 // A trace put to a cache with these tables, which a set-up accepts.
+// The heap is lent to each of these, and each asks for the bound that split_input's clause gives the trace.
 fn spot_with<M: SetMap + Drop>(
     heap: Global,
     map: M,
@@ -34,7 +35,8 @@ fn spot_with<M: SetMap + Drop>(
     match SingleCache::set_up(map, s, tables) {
         Ok(mut cache) => {
             let mut refused = Vec::new(heap);
-            let mut source = Text::new(trace);
+            // Line 1 counts as answered, so that an item's number is its line's.
+            let mut source = Text::after(trace, 1);
             feed_all(&mut cache, &mut source, tables, &mut refused)?;
             let rows = list_rows(heap, &cache, s.processors, tables)?;
             Ok(Report { refused, rows })
@@ -54,6 +56,7 @@ fn spot_trace<M: SetMap + Drop>(
     ensures { Answered (unless_settings (settings_refusal (M.meaning map) s) (spotted_on (M.meaning map) s (text_items trace.now))) result }
 {
     let sizes = table_sizes(&map, s)?;
+    // Two lists, since a cache is lent two slices.
     let mut frames: Vec<Frame> = vec![in heap; None; sizes.frames]?;
     let mut counters: Vec<u32> = vec![in heap; 0; sizes.counters]?;
     let mut tables = LentTables {
@@ -63,6 +66,7 @@ fn spot_trace<M: SetMap + Drop>(
     spot_with(heap, map, s, trace, &mut tables)
 }
 
+// Map by map, since a closure is not generic in the map.
 fn spot_chosen(heap: Global, chosen: Chosen, trace: &[u8]) -> Result<Report<Row>, ReportError>
     requires { length trace.now ≤ 65536 }
     ensures { Answered (first_line (Ok chosen) (text_items trace.now)) result }
@@ -73,7 +77,7 @@ fn spot_chosen(heap: Global, chosen: Chosen, trace: &[u8]) -> Result<Report<Row>
     }
 }
 
-// The report of a program's input.
+// The report of a program's input. One function for this and the evening sheet would be longer than its three lines.
 pub fn spot_check(heap: Global, input: &[u8]) -> Result<Report<Row>, ReportError>
     ensures { Answered (spot_check input.now) result }
 {

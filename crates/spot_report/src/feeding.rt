@@ -1,7 +1,6 @@
 ghost use Rattle.std.specs.Prelude.{◌≡◌, ◌+◌, ◌-◌, ◌^◌, ◌<◌, false, length, OnOk};
 ghost use Rattle.single.specs.Calls.{short};
 ghost use Rattle.single.specs.Lent.{lent, SameSlices};
-ghost use Rattle.report.specs.Refused.{refused_line};
 ghost use Rattle.spot_report.specs.Steps.{standing_of, FedOne, PutThrough};
 
 use report::RefusedLine;
@@ -11,6 +10,8 @@ use std::alloc::AllocError;
 use trace::{Fault, Fed, Layer, Source};
 
 // That the tables suffice stays asked for, here and in the rows: a struct that lends them with it would have to show it anew after each feed.
+// Room for one reference more stays asked for too: the cache refuses one too many, and the report promises that none is refused for that.
+// Beside the study's feed and not under one form with it: the settings, the tables and the contracts on them are others.
 
 // Puts the next item of a source to the cache.
 pub(super) fn feed<M: SetMap, S: Source>(
@@ -36,15 +37,7 @@ pub(super) fn feed<M: SetMap, S: Source>(
     Ok(Fed::Accepted)
 }
 
-// A refused item by its line: item 1 stands in line 2.
-fn refused_line(fault: Fault) -> RefusedLine
-    requires { fault.item < 2 ^ 64 - 1 }
-    ensures { result ≡ refused_line (fault.item + 1) fault.refusal }
-{
-    RefusedLine::new(fault.item + 1, fault.refusal)
-}
-
-// Puts a source to the cache, to its end, and adds its refused lines to `refused`.
+// Puts a source whose items are lines to the cache, to its end, and adds its refused lines to `refused`.
 pub(super) fn feed_all<M: SetMap, S: Source>(
     cache: &mut SingleCache<M>,
     source: &mut S,
@@ -53,7 +46,6 @@ pub(super) fn feed_all<M: SetMap, S: Source>(
 ) -> Result<(), AllocError>
     requires long { short (M.meaning cache.old.setup.map) cache.old.setup.settings (lent tables.old) ≡ false }
     requires room { cache.old.accepted + length (S.items source.old) < 2 ^ 32 - 1 }
-    requires few { S.answered source.old + length (S.items source.old) < 2 ^ 32 }
     ensures through { OnOk result (PutThrough (M.meaning cache.old.setup.map) cache.old.setup.settings (standing_of (S.items source.old) (S.answered source.old) cache.old.accepted (lent tables.old)) refused.old.items cache.new.accepted (lent tables.new) refused.new.items) }
     ensures same { SameSlices tables.old tables.new }
     ensures setup { cache.new.setup ≡ cache.old.setup }
@@ -62,7 +54,7 @@ pub(super) fn feed_all<M: SetMap, S: Source>(
         match feed(cache, source, tables) {
             Ok(Fed::End) => return Ok(()),
             Ok(Fed::Accepted) => {}
-            Err(fault) => refused.push(refused_line(fault))?,
+            Err(fault) => refused.push(RefusedLine::from(fault))?,
         }
     }
 }

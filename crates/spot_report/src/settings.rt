@@ -10,6 +10,8 @@ use text::fields::take_number;
 use trace::Refusal;
 
 // Line 1, `map,processors,shift,level,ways`, without its line feed.
+// Its fields are no item of the trace: their item is 0, which the refusal leaves out.
+// Like the evening sheet's line but for the fields; what one leaves goes to the next one's reader.
 pub fn read_settings(line: &[u8]) -> Result<Chosen, Refusal>
     ensures { result ≡ chosen (pieces 44 line.now) }
 {

@@ -64,6 +64,7 @@ impl Walk {
 }
 
 // Whether the stack after an own reference to q fits into the stretch. Only a stack that would grow is walked to its end.
+// That the walk is one down these entries stays asked for, here and in an own reference: it speaks of a slice that a walk does not hold.
 pub(super) fn fits<M: SetMap>(es: &[Entry], q: Block, map: &M, walk: &Walk) -> bool
     requires { Walked (M.meaning map.now) q es.now walk.now }
     ensures { result ≡ has_room (M.meaning map.now) q es.now }

@@ -4,18 +4,19 @@ ghost use Rattle.stack.specs.Walk.{stopped, above, position_at, Tallied, Walked}
 
 use super::Entry;
 use super::marker::meet;
-use levels::Levels;
+use levels::{LEVELS, Levels};
 use setmap::SetMap;
 use trace::Block;
 
 // Where a walk for a block stopped, at the block or, where it is absent, at the stack's end, and what the walk saw above:
 // how many entries stay once the markers have given up what they give, what that is, and the block's position at each level.
+// A fixed list for all the levels, whatever the study has: nothing from the heap.
 #[derive(Clone, Copy)]
 pub struct Walk {
     pub stop: Result<usize, usize>,
     pub stays: usize,
     pub given: Levels,
-    pub positions: [usize; 17],
+    pub positions: [usize; LEVELS],
 }
 
 impl Walk {
@@ -29,10 +30,11 @@ impl Walk {
 }
 
 // What a walk has counted: blocks by how many levels they share with the one sought, markers by level.
+// Two lists, since there is one more count of blocks than of markers.
 #[derive(Clone, Copy)]
 struct Tally {
-    sharing: [usize; 18],
-    markers: [usize; 17],
+    sharing: [usize; LEVELS + 1],
+    markers: [usize; LEVELS],
     stays: usize,
     given: Levels,
 }
@@ -48,14 +50,14 @@ fn count_levels(counts: &mut [usize], levels: Levels)
     }
 }
 
-// One pass down to the block, or to the end of the stack.
+// One pass down to the block, or to the end of the stack: a loop that yields its place by break, which a `for` cannot.
 // It counts in variables of its own: with one tally a short walk takes half as long again.
 fn count_above<M: SetMap>(es: &[Entry], q: Block, map: &M) -> (Result<usize, usize>, Tally)
     ensures stop { result.0 ≡ stopped q es.now }
     ensures tallied { Tallied (M.meaning map.now) q (above q es.now) result.1 }
 {
-    let mut sharing = [0; 18];
-    let mut markers = [0; 17];
+    let mut sharing = [0; LEVELS + 1];
+    let mut markers = [0; LEVELS];
     let mut given = Levels::none();
     let mut stays = 0;
     let mut place = 0;
@@ -69,7 +71,7 @@ fn count_above<M: SetMap>(es: &[Entry], q: Block, map: &M) -> (Result<usize, usi
                 if b == q {
                     break Ok(place);
                 }
-                sharing[map.shared_levels(q.number, b.number).min(17) as usize] += 1;
+                sharing[map.shared_levels(q.number, b.number).min(LEVELS as u32) as usize] += 1;
                 stays += 1;
             }
             Entry::Marker(b, v) => {
@@ -93,15 +95,15 @@ fn count_above<M: SetMap>(es: &[Entry], q: Block, map: &M) -> (Result<usize, usi
 // A level's position: the blocks above that share it, the markers that count there, and the block itself.
 // From the last level down, so that one sum serves every level.
 // By an index: an iterator turned round over three lists says nothing of what it leaves in the first.
-fn sum_levels(sharing: &[usize], markers: &[usize]) -> [usize; 17]
+fn sum_levels(sharing: &[usize], markers: &[usize]) -> [usize; LEVELS]
     requires wide { (length sharing.now ≡ 18) × (length markers.now ≡ 17) }
     requires few { (i : ℕ) → i < 17 → sum sharing.now + slice_index markers.now i + 1 < 2 ^ 64 }
     ensures each { (i : ℕ) → i < 17 → slice_index result i ≡ sum (drop (i + 1) sharing.now) + slice_index markers.now i + 1 }
     ensures many { length result ≡ 17 }
 {
-    let mut positions = [0; 17];
+    let mut positions = [0; LEVELS];
     let mut above = 0;
-    for i in (0..17).rev() {
+    for i in (0..LEVELS).rev() {
         above += sharing[i + 1];
         positions[i] = 1 + above + markers[i];
     }
@@ -109,6 +111,7 @@ fn sum_levels(sharing: &[usize], markers: &[usize]) -> [usize; 17]
 }
 
 // One walk from the top down to q, or to the end of the stack. It gives the position at every level at once.
+// Two fields are taken over: with a tally inside a walk, each clause would name them by one step more.
 pub fn walk_to<M: SetMap>(es: &[Entry], q: Block, map: &M) -> Walk
     ensures { Walked (M.meaning map.now) q es.now result }
 {

@@ -1,5 +1,6 @@
 -- References to tables in order.
-use Rattle.std.proofs.Common.{◌≡◌, ℕ, ◌<◌, ◌≤◌, Bool, true, false, not, ◌||◌, length, get_or, take, set, Ok, Err, Result, sym, refl, ap, ◌∙◌, subst, arith, length-set, length-take}
+use Rattle.std.proofs.Common.{◌≡◌, IfSome, is_some, Option, Some, None, ℕ, ◌<◌, ◌≤◌, Bool, true, false, not, ◌||◌, length, get_or, take, set, Ok, Err, Result, sym, refl, ap, ◌∙◌, subst, arith, length-set, length-take}
+use Rattle.std.specs.Bool.{then_some}
 use Rattle.std.proofs.lemmas.List.{get_or-set_same}
 use Rattle.places.proofs.Places.{place-within}
 use Rattle.setmap.specs.Mapping.{Mapping}
@@ -29,7 +30,7 @@ module _ (m : Mapping) (s : Settings) (n : ℕ) (t : Tables) (p : ℕ) (b : Spot
     known : place_of q (take n t.known) < n
     known = subst (λ j. j < n) o.2 o.1
 
-    pub written : (u : Tables) → u ≡ others_write_to m s p q k t → KnownInOrder s n b u
+    written : (u : Tables) → u ≡ others_write_to m s p q k t → KnownInOrder s n b u
     written u e = (
       subst (InOrder s n) (sym e)
           (subst (λ j. InOrder s n (others_write_to m s p q j t)) (sym o.2) (write_in_order m s n t p q l.entries l.known l.marks lo hi o.0 known)),
@@ -41,12 +42,6 @@ module _ (m : Mapping) (s : Settings) (n : ℕ) (t : Tables) (p : ℕ) (b : Spot
     skipped x =
         subst (λ j. t ≡ others_write_to m s p q j t) (sym o.2)
         (sym (write_skipped m s n t p q l.entries l.known l.marks lo hi o.0 known (subst (λ j. is_held (get_or t.marks (mark_at s p j) Never) ≡ false) o.2 x)))
-
-  -- another's write to a processor that is passed by
-  pub passed_by : (ordered : Bool) → (ordered ≡ true → KnownInOrder s n b t) → (not ordered || is_held (get_or t.marks (mark_at s p k) Never)) ≡ false
-      → t ≡ others_write_to m s p q k t
-  passed_by true o x = skipped (o refl) x
-  passed_by false o x = cc
 
   -- an own reference, to a block that has a place or finds room
   module _ (o : InOrder s n t) (is : k ≡ place_of q (take n t.known)) (room : k < s.blocks) where
@@ -79,3 +74,19 @@ module _ (m : Mapping) (s : Settings) (n : ℕ) (t : Tables) (p : ℕ) (b : Spot
     pub left_in_order : (r : Result (Unit {0}) Refusal) (u : Tables) → UnlessFull (no_more_entries m s t p q) t (own_reference m s p q k t) r u → LeftInOrder s n b r u
     left_in_order (Ok x) u f = done u f.0 f.1
     left_in_order (Err x) u f = subst (InOrder s n) (sym f.2) o
+
+-- another's write, of tables that are in order with so many blocks known, if they are
+module _ (m : Mapping) (s : Settings) (t : Tables) (p : ℕ) (b : Spot) (l : Long s t) (lo : 1 ≤ p) (hi : p ≤ s.processors) where
+  pub written_so : (o : Option ℕ) → IfSome o (λ n. KnownInOrder s n b t) → (u : Tables) → u ≡ others_write_to m s p b.block b.place t → IfSome o (λ n. KnownInOrder s n b u)
+  written_so None h u e = tt
+  written_so (Some n) h u e = written m s n t p b l lo hi h u e
+
+  -- to a processor that is passed by
+  pub passed_by : (o : Option ℕ) → IfSome o (λ n. KnownInOrder s n b t) → (not (is_some o) || is_held (get_or t.marks (mark_at s p b.place) Never)) ≡ false
+      → t ≡ others_write_to m s p b.block b.place t
+  passed_by None h x = cc
+  passed_by (Some n) h x = skipped m s n t p b l lo hi h x
+
+pub if_ordered : (ordered : Bool) (n : ℕ) (P : ℕ → Type 0) → (ordered ≡ true → P n) → IfSome (then_some ordered n) P
+if_ordered true n P f = f refl
+if_ordered false n P f = tt

@@ -1,5 +1,6 @@
 -- A look at one processor's stretch and marks.
-use Rattle.std.proofs.Common.{◌≡◌, ℕ, ◌+◌, ◌-◌, Bool, true, List, take, drop, ◌≤◌, sym, ap, ◌∙◌, subst, subst₂, inl, inr, arith}
+use Rattle.std.proofs.Common.{◌≡◌, refl, IsSome, ℕ, ◌+◌, ◌-◌, Bool, true, false, List, take, drop, ◌≤◌, sym, ap, ◌∙◌, subst, subst₂, inl, inr, arith}
+use Rattle.std.specs.Bool.{then_some}
 use Rattle.std.proofs.lemmas.Bool.{cases_lt}
 use Rattle.places.specs.Parts.{part, start}
 use Rattle.tables.specs.declared.Settings.{Settings}
@@ -30,3 +31,8 @@ one_row_more s n t p at from r low distinct before e m f y most last i lo hi =
           subst (λ j. Orderly K (stretch s j t) (part (start s.blocks j) s.blocks t.marks)) is a)
       | inr x ↦ before i lo x
     ]
+
+-- what is given only where a look has found so
+pub given : {A : Type 0} (b : Bool) (x : A) → IsSome (then_some b x) → b ≡ true
+given true x e = refl
+given false x e = cc

@@ -20,6 +20,7 @@ use Rattle.tables.specs.Tables.{Tables, stretch}
 use Rattle.tables.specs.Calls.{Kept, short, place_of, no_more_entries, reference_refusal, question_refusal}
 use Rattle.order.specs.Order.{Orderly, InOrder}
 use Rattle.study.specs.declared.blocks.Spot.{Spot}
+use Rattle.study.specs.Limits.{Long}
 
 -- what an open study keeps besides its settings
 abbrev pub kept_of : (known accepted : ℕ) → Kept
@@ -47,6 +48,7 @@ UnlessFull full t done (Err x) u = (full ≡ true) × (x ≡ Entries) × (u ≡ 
 
 -- A reference that nothing but full entries can refuse any more, with its block and the block's place among the known ones.
 pub record Placed (m : Mapping) (s : Settings) (kept : Kept) (t : Tables) (r : Reference) (b : Spot) : Type 0 where
+  pub long : Long s t
   pub low : 1 ≤ r.processor
   pub high : r.processor ≤ s.processors
   pub below : kept.accepted < 2 ^ 32 - 1

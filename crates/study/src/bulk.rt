@@ -26,7 +26,8 @@ fn hand_on<K: Sink>(answer: Result<Fed, Fault>, faults: &mut K) -> Result<Fed, F
 }
 
 impl<M: SetMap> OpenStudy<M> {
-    // A feed, by the hints if there are any. `hints.as_mut()` would do, but says nothing of hints that are not there after it.
+    // A feed, by the hints if there are any; what it leaves stands in a clause each, as in `take_reference`.
+    // `hints.as_mut()` would do, but says nothing of hints that are not there after it.
     fn feed_in_bulk<S: Source>(
         &mut self,
         source: &mut S,
@@ -50,7 +51,7 @@ impl<M: SetMap> OpenStudy<M> {
         }
     }
 
-    // Feeds until the source ends, on tables that are long enough.
+    // Feeds until the source ends, on tables that are long enough. This is asked twice: `through` says it by `short`, each feed asks for `Long`.
     fn feed_to_end<S: Source, K: Sink>(
         &mut self,
         source: &mut S,

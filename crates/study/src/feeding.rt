@@ -26,7 +26,7 @@ fn answer_feed(n: u64, answer: Result<(), Refusal>) -> Result<Fed, Fault>
 }
 
 impl<M: SetMap> OpenStudy<M> {
-    // The fault of a feed whose tables are too short, which is no item's.
+    // The fault of a feed whose tables are too short, which is no item's: its item is 0, as docs/REFUSALS.md says.
     pub(super) fn refuse_short(&self, tables: &LentTables<'_>) -> Result<(), Fault>
         ensures { NotShort self.now.setup.settings (lent tables.now) result }
     {

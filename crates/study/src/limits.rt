@@ -2,6 +2,8 @@ ghost use Rattle.std.specs.Prelude.{◌≡◌, false};
 ghost use Rattle.study.specs.Limits.{Limited};
 ghost use Rattle.tables.specs.Calls.{unlimited};
 
+use levels::LEVELS;
+use order::rows;
 use tables::Settings;
 
 // Whether a setting is outside its limits.
@@ -13,11 +15,11 @@ pub(super) fn is_unlimited(s: Settings) -> bool
         || s.processors > 64
         || s.shift > 12
         || s.levels < 1
-        || s.levels > 17
+        || s.levels > LEVELS as u32
         || s.ways < 1
         || s.ways > 16
         || s.blocks < 1
-        || s.blocks > 4096
+        || s.blocks > rows::MOST as u32
         || s.entries < 1
         || s.entries > 69632
 }

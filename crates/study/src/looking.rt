@@ -22,6 +22,7 @@ fn note_all(hints: &mut Hints, known: &[Block]) {
 
 impl<M: SetMap> Setup<M> {
     // Whether each processor's entries and marks are in order, where the first n blocks are known, and distinct.
+    // By offsets, in which the definitions are written: chunks of the two tables, side by side, would first have to be shown to be these parts.
     fn rows_in_order(&self, n: u32, hints: &mut Hints, tables: &LentTables<'_>) -> bool
         requires few { n ≤ self.now.settings.blocks }
         requires long { Long self.now.settings (lent tables.now) }
@@ -57,10 +58,6 @@ impl<M: SetMap> Setup<M> {
         }
         let mut hints = Hints::none();
         note_all(&mut hints, known);
-        if self.rows_in_order(n, &mut hints, tables) {
-            Some(hints)
-        } else {
-            None
-        }
+        self.rows_in_order(n, &mut hints, tables).then_some(hints)
     }
 }

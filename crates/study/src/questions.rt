@@ -19,6 +19,7 @@ use tables::sums::sum_first;
 use trace::{Block, Refusal};
 
 // Whether a cache of so many ways reaches the position at a level that a walk found.
+// Beside the one in scoring: that has the position, this one looks whether there is one.
 fn reaches(walk: &Walk, level: u32, ways: u32) -> bool
     ensures { result ≡ within (position_at level walk.now) ways }
 {

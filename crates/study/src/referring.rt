@@ -5,7 +5,7 @@ ghost use Rattle.study.specs.Steps.{kept_of, known_then, Found};
 ghost use Rattle.tables.specs.Calls.{Kept, Outcome, place_of, referenced};
 ghost use Rattle.tables.specs.Lent.{lent, SameSlices};
 
-use super::blocks::{Spot, find_block, seek_block};
+use super::blocks::{Spot, seek_block};
 use super::open::OpenStudy;
 use order::hints::Hints;
 use setmap::SetMap;
@@ -13,6 +13,7 @@ use tables::LentTables;
 use trace::{Block, Reference, Refusal};
 
 // How many blocks are known after a reference to the block at a place: one more where the place is new.
+// A new block's place is the number known, so no flag is carried.
 pub(super) fn known_after(known: u32, blocks: u32, place: usize) -> u32
     requires { (known ≤ blocks) × (place < blocks) }
     ensures value { result ≡ known_then known place }
@@ -33,10 +34,11 @@ impl<M: SetMap> OpenStudy<M> {
         ensures value { result ≡ place_of block (take self.now.known known.now) }
         ensures bound { result ≤ self.now.known }
     {
-        match hints {
-            Some(hints) => find_block(hints, known, self.known, block),
-            None => seek_block(known, self.known, block).unwrap_or(self.known as usize),
-        }
+        let place = match hints {
+            Some(hints) => hints.find(&known[..self.known as usize], block),
+            None => seek_block(known, self.known, block),
+        };
+        place.unwrap_or(self.known as usize)
     }
 
     // A reference's block and its place, or the first refusal; only full entries can refuse it after that.
@@ -66,6 +68,7 @@ impl<M: SetMap> OpenStudy<M> {
     }
 
     // Counts an accepted reference to the block at a place of the known ones.
+    // Room for one more is asked for: a count that stayed at the largest would be wrong without a word.
     fn keep(&mut self, place: usize)
         requires { (place < self.old.setup.settings.blocks) × (self.old.accepted < 2 ^ 32 - 1) }
         ensures known { self.new.known ≡ known_then self.old.known place }
@@ -77,6 +80,7 @@ impl<M: SetMap> OpenStudy<M> {
     }
 
     // A reference to tables that are long enough. With hints, they are in order, and in order after it.
+    // Answer, kept and tables are three clauses, each of which the callers use by its name.
     pub(super) fn take_reference(
         &mut self,
         r: Reference,

@@ -12,6 +12,7 @@ use stack::touch::touch;
 use stack::walk::{Walk, walk_to};
 use trace::Block;
 
+// The bounds are written out three times: a function for them would take more lines, with its clauses, than it saves.
 impl<M: SetMap> Setup<M> {
     // Processor p's own reference to q, in its stretch; the walk to q, or none and nothing altered where the stack would not fit.
     pub(super) fn touch_part(&self, p: u32, q: Block, entries: &mut [Entry]) -> Option<Walk>

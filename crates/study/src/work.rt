@@ -1,4 +1,4 @@
-ghost use Rattle.std.specs.Prelude.{◌≡◌, ◌<◌, ◌≤◌, ◌==◌, ◌||◌, true, not, cond, List, length, take, slice_index_or, slice_set};
+ghost use Rattle.std.specs.Prelude.{◌≡◌, ◌<◌, ◌≤◌, ◌==◌, ◌||◌, true, not, cond, IfSome, List, length, take, slice_index_or, slice_set};
 ghost use Rattle.order.specs.Order.{InOrder, is_held};
 ghost use Rattle.places.specs.Parts.{more};
 ghost use Rattle.setmap.specs.Mapping.{Mapping};
@@ -24,6 +24,7 @@ use tables::marks::note;
 use tables::{Event, LentTables, Mark};
 use trace::{Block, Operation, Reference, Refusal};
 
+// `Long` and the order stay asked for: a struct that lends the tables with them would have to show them anew after each write.
 impl<M: SetMap> Setup<M> {
     // What processor p's own reference to a block leaves besides the entries.
     fn record_own(
@@ -85,39 +86,38 @@ impl<M: SetMap> Setup<M> {
         !ordered || is_held(tables.marks, self.mark_at(p, place))
     }
 
-    // What a write by processor w of one of the n known blocks does to processor p, if it is another.
+    // What a write by processor w of a known block does to processor p, if it is another; in order with so many blocks known, if any.
     fn write_past(
         &self,
         w: u32,
         p: u32,
         spot: Spot,
-        n: u32,
-        ordered: bool,
+        ordered: Option<u32>,
         tables: &mut LentTables<'_>,
     )
         requires limits { (IsProcessor self.now.settings p) × (spot.place < self.now.settings.blocks) }
         requires long { Long self.now.settings (lent tables.old) }
-        requires ordered { ordered ≡ true → KnownInOrder self.now.settings n spot (lent tables.old) }
+        requires ordered { IfSome ordered (λ n. KnownInOrder self.now.settings n spot (lent tables.old)) }
         ensures written { lent tables.new ≡ cond (p == w) (lent tables.old) (others_write_to (M.meaning self.now.map) self.now.settings p spot.block spot.place (lent tables.old)) }
         ensures same { SameSlices tables.old tables.new }
-        ensures ordered { ordered ≡ true → KnownInOrder self.now.settings n spot (lent tables.new) }
+        ensures ordered { IfSome ordered (λ n. KnownInOrder self.now.settings n spot (lent tables.new)) }
     {
-        if p != w && self.may_have(p, spot.place, ordered, tables) {
+        if p != w && self.may_have(p, spot.place, ordered.is_some(), tables) {
             self.write_to(p, spot, tables);
         }
     }
 
-    // A write by processor w of one of the n known blocks, put to all the others.
-    fn write_all(&self, w: u32, spot: Spot, n: u32, ordered: bool, tables: &mut LentTables<'_>)
+    // A write by processor w of a known block, put to all the others; in order with so many blocks known, if any.
+    fn write_all(&self, w: u32, spot: Spot, ordered: Option<u32>, tables: &mut LentTables<'_>)
         requires limits { spot.place < self.now.settings.blocks }
         requires long { Long self.now.settings (lent tables.old) }
-        requires ordered { ordered ≡ true → KnownInOrder self.now.settings n spot (lent tables.old) }
+        requires ordered { IfSome ordered (λ n. KnownInOrder self.now.settings n spot (lent tables.old)) }
         ensures written { lent tables.new ≡ others_write_all (M.meaning self.now.map) self.now.settings w spot.block spot.place self.now.settings.processors (lent tables.old) }
         ensures same { SameSlices tables.old tables.new }
-        ensures ordered { ordered ≡ true → KnownInOrder self.now.settings n spot (lent tables.new) }
+        ensures ordered { IfSome ordered (λ n. KnownInOrder self.now.settings n spot (lent tables.new)) }
     {
         for p in 1..=self.settings.processors {
-            self.write_past(w, p, spot, n, ordered, tables);
+            self.write_past(w, p, spot, ordered, tables);
         }
     }
 
@@ -144,7 +144,7 @@ impl<M: SetMap> Setup<M> {
             Operation::Read | Operation::Fetch => {}
             Operation::Write => {
                 let n = known_after(n, self.settings.blocks, spot.place);
-                self.write_all(r.processor, spot, n, ordered, tables)
+                self.write_all(r.processor, spot, ordered.then_some(n), tables)
             }
         }
         Ok(())

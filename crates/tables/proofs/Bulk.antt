@@ -1,5 +1,5 @@
 -- A bulk feed, item by item.
-use Rattle.std.proofs.Common.{◌≡◌, ℕ, ◌+◌, ◌<◌, Bool, true, false, List, [], ◌∷◌, ◌++◌, length, drop, Ok, Err, Result, sym, refl, ap, ◌∙◌, subst, inr, append_assoc, arith}
+use Rattle.std.proofs.Common.{◌≡◌, ℕ, ◌+◌, ◌<◌, false, List, [], ◌∷◌, ◌++◌, length, drop, Ok, Err, Result, sym, refl, ap, ◌∙◌, subst, inr, append_assoc, arith}
 use Rattle.std.proofs.lemmas.List.{append-nil}
 use Rattle.std.proofs.lemmas.Bool.{cond-false}
 use Rattle.setmap.specs.Mapping.{Mapping}
@@ -7,11 +7,11 @@ use Rattle.trace.specs.Items.{Item, reference, bad}
 use Rattle.trace.specs.declared.Fault.{Fault}
 use Rattle.trace.specs.declared.Refusal.{Refusal}
 use Rattle.trace.specs.declared.Fed.{Fed}
-use Rattle.trace.specs.declared.Fed.TheVariants.{Accepted, End}
+use Rattle.trace.specs.declared.Fed.TheVariants.{End}
 use Rattle.tables.specs.declared.Settings.{Settings}
 use Rattle.tables.specs.Tables.{Tables}
 use Rattle.tables.specs.Calls.{Kept, short, fed, fed_first, fed_answer, referenced}
-use Rattle.tables.specs.Bulk.{Standing, standing_of, faulted, Handed, fed_all, FedThrough}
+use Rattle.tables.specs.Bulk.{Standing, standing_of, faulted, fed_all, FedThrough}
 
 -- some of the items have been fed, and these are still to come
 abbrev pub Underway : Mapping → Settings → (before now : Standing) → Type 0
@@ -48,22 +48,6 @@ ended m s kept t (bad x ∷ items) n e = let z : ◌≡◌ {A = ℕ} 0 1 = cc in
 pub stopped : (m : Mapping) (s : Settings) (before : Standing) (kept : Kept) (t : Tables) (items : List Item) (n : ℕ) (fs : List Fault) (f : Fault) (r : Result (Unit {0}) Fault)
     → short s before.tables ≡ false → r ≡ Err f → Underway m s before (standing_of kept t items n (fs ++ (f ∷ []))) → FedThrough m s before (standing_of kept t items n fs) r
 stopped m s before kept t items n fs f r l e u = subst (FedThrough m s before (standing_of kept t items n fs)) (sym e) (inr (l, u))
-
--- what is handed on tells the answer
-pub handed_end : (fs fs' : List Fault) (a : Result Fed Fault) (y : Bool) → y ≡ false → Handed fs a (Ok y) fs' → (a ≡ Ok End) × (fs' ≡ fs)
-handed_end fs fs' (Ok End) y e h = (refl, h.1)
-handed_end fs fs' (Ok Accepted) y e h = let z : ◌≡◌ {A = ℕ} 0 1 = cc in absurd (omega arith)
-handed_end fs fs' (Err f) y e h = let z : ◌≡◌ {A = ℕ} 0 1 = cc in absurd (omega arith)
-
-pub handed_on : (fs fs' : List Fault) (a : Result Fed Fault) (y : Bool) → y ≡ true → Handed fs a (Ok y) fs' → (a ≡ Ok End → ⊥) × (fs' ≡ faulted fs a)
-handed_on fs fs' (Ok End) y e h = let z : ◌≡◌ {A = ℕ} 0 1 = cc in absurd (omega arith)
-handed_on fs fs' (Ok Accepted) y e h = (λ x. let z : ◌≡◌ {A = ℕ} 0 1 = cc in omega arith, h.1)
-handed_on fs fs' (Err f) y e h = (λ x. let z : ◌≡◌ {A = ℕ} 0 1 = cc in omega arith, h.1)
-
-pub handed_back : (fs fs' : List Fault) (a : Result Fed Fault) (g : Fault) → Handed fs a (Err g) fs' → (a ≡ Err g) × (fs' ≡ fs)
-handed_back fs fs' (Ok End) g h = let z : ◌≡◌ {A = ℕ} 0 1 = cc in absurd (omega arith)
-handed_back fs fs' (Ok Accepted) g h = let z : ◌≡◌ {A = ℕ} 0 1 = cc in absurd (omega arith)
-handed_back fs fs' (Err f) g h = (ap Err (sym h.0), h.1)
 
 pub fault_goes_on : (a : Result Fed Fault) (f : Fault) → a ≡ Err f → a ≡ Ok End → ⊥
 fault_goes_on a f x y = let z : ◌≡◌ {A = ℕ} 0 1 = cc in omega arith

@@ -1,12 +1,11 @@
 -- A bulk feed: feeds, one after another, until the source ends.
-use Rattle.std.specs.Prelude.{◌≡◌, ℕ, ◌+◌, Bool, true, false, ◌⊎◌, List, [], ◌∷◌, ◌++◌, Ok, Err, Result}
+use Rattle.std.specs.Prelude.{◌≡◌, ℕ, ◌+◌, true, false, ◌⊎◌, List, [], ◌∷◌, ◌++◌, Ok, Err, Result}
 use Rattle.setmap.specs.Mapping.{Mapping}
 use Rattle.trace.specs.Items.{Item}
 use Rattle.trace.specs.declared.Fault.{Fault}
 use Rattle.trace.specs.declared.Layer.TheVariants.{Study}
 use Rattle.trace.specs.declared.Refusal.TheVariants.{ShortTable}
 use Rattle.trace.specs.declared.Fed.{Fed}
-use Rattle.trace.specs.declared.Fed.TheVariants.{Accepted, End}
 use Rattle.tables.specs.declared.Settings.{Settings}
 use Rattle.tables.specs.Tables.{Tables}
 use Rattle.tables.specs.Calls.{Kept, short, fed}
@@ -26,13 +25,6 @@ standing_of kept t items n fs = record { kept = kept; tables = t; items = items;
 abbrev pub faulted : List Fault → Result Fed Fault → List Fault
 faulted fs (Ok x) = fs
 faulted fs (Err f) = fs ++ (f ∷ [])
-
--- What is left of a feed's answer once its fault, if it has one, is handed on: whether the source goes on, or the fault that was not taken.
-abbrev pub Handed : List Fault → Result Fed Fault → Result Bool Fault → List Fault → Type 0
-Handed before (Ok End) r after = (r ≡ Ok false) × (after ≡ before)
-Handed before (Ok Accepted) r after = (r ≡ Ok true) × (after ≡ before)
-Handed before (Err f) (Ok y) after = (y ≡ true) × (after ≡ before ++ (f ∷ []))
-Handed before (Err f) (Err g) after = (g ≡ f) × (after ≡ before)
 
 -- Feed, called once for each of these items, with `later` still to come after them.
 abbrev pub fed_all : Mapping → Settings → Kept → Tables → (items later : List Item) (count : ℕ) → List Fault → Standing

@@ -6,6 +6,8 @@ use stack::Entry;
 use trace::Block;
 
 // The tables of a study, lent to a call: stretches of entries, known blocks, marks and counters.
+// Four slices for all processors, cut by offsets: the caller's memory, of fixed length, and nothing from the heap.
+// Each call says by `same` that it leaves the slices that it was lent.
 #[derive(Drop)]
 pub struct LentTables<'a> {
     pub entries: &'a mut [Entry],
@@ -14,7 +16,7 @@ pub struct LentTables<'a> {
     pub counters: &'a mut [u32],
 }
 
-// The same tables, lent for a look.
+// The same tables, lent for a look: who only looks may have no more than this to lend, and Rust has no struct for both.
 #[derive(Clone, Copy)]
 pub struct SeenTables<'a> {
     pub entries: &'a [Entry],

@@ -4,7 +4,7 @@ ghost use Rattle.tables.specs.Calls.{marked};
 
 use super::{Event, Mark};
 
-// A mark after an event.
+// A mark after an event. The event is data, so that one match on both says all that can happen.
 fn change(mark: Mark, event: Event) -> Mark
     ensures { result ≡ marked mark event }
 {

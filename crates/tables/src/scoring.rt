@@ -7,6 +7,7 @@ ghost use Rattle.tables.specs.Calls.{scores};
 ghost use Rattle.trace.specs.declared.Block.{Block as MemoryBlock};
 
 use super::Settings;
+use levels::LEVELS;
 use places::bump;
 use stack::walk::Walk;
 
@@ -23,7 +24,7 @@ pub fn score(counters: &mut [u32], s: Settings, from: usize, walk: &Walk)
     ensures { (m : Mapping) (q : MemoryBlock) (es : List StackEntry) → Walked m q es walk.now → counters.new ≡ scores m s from q (stack es) (min s.levels 17) counters.old }
 {
     if walk.stop.is_ok() {
-        let levels = s.levels.min(17) as usize;
+        let levels = s.levels.min(LEVELS as u32) as usize;
         for (i, &k) in walk.positions[..levels].iter().enumerate() {
             if reaches(s.ways, k) {
                 let at = i * s.ways as usize + k.saturating_sub(1);

@@ -1,6 +1,5 @@
 ghost use Rattle.std.specs.Prelude.{◌≡◌};
 ghost use Rattle.text.specs.declared.faults.LineFault.TheVariants.{Field};
-ghost use Rattle.text.specs.declared.faults.Wrong.TheVariants.{Form, Size};
 ghost use Rattle.text.specs.Told.{refusal_of, told};
 
 use trace::{Fault, Layer, Refusal};
@@ -12,7 +11,7 @@ pub enum Wrong {
     Size,
 }
 
-// A refused field, and the item of the trace that it stands in.
+// The innermost of the layers that a fault passes by ?: a refused field, and the item of the trace that it stands in.
 #[derive(Clone, Copy, PartialEq, Eq)]
 pub struct FieldFault {
     pub item: u64,
@@ -20,22 +19,10 @@ pub struct FieldFault {
 }
 
 impl FieldFault {
-    pub(crate) fn form(item: u64) -> FieldFault
-        ensures { result ≡ record { item = item; wrong = Form } }
+    pub(crate) fn new(item: u64, wrong: Wrong) -> FieldFault
+        ensures { result ≡ record { item = item; wrong = wrong } }
     {
-        FieldFault {
-            item,
-            wrong: Wrong::Form,
-        }
-    }
-
-    pub(crate) fn size(item: u64) -> FieldFault
-        ensures { result ≡ record { item = item; wrong = Size } }
-    {
-        FieldFault {
-            item,
-            wrong: Wrong::Size,
-        }
+        FieldFault { item, wrong }
     }
 }
 

@@ -5,8 +5,10 @@ ghost use Rattle.text.specs.Told.{Refused};
 ghost use Rattle.text.specs.declared.faults.Wrong.TheVariants.{Form};
 
 use super::cut::take_field;
-use super::faults::FieldFault;
+use super::faults::{FieldFault, Wrong};
 use trace::Operation;
+
+// Each reader is told the item, for the fault that passes by ?; what it leaves of the line goes to the next.
 
 // The value of digits, held at 2^32 from there on: above every limit it stays above.
 fn read_digits(field: &[u8], item: u64) -> Result<u64, FieldFault>
@@ -16,7 +18,7 @@ fn read_digits(field: &[u8], item: u64) -> Result<u64, FieldFault>
     for b in field {
         match *b {
             b'0'..=b'9' => value = (value * 10 + u64::from(*b - b'0')).min(1 << 32),
-            _ => return Err(FieldFault::form(item)),
+            _ => return Err(FieldFault::new(item, Wrong::Form)),
         }
     }
     Ok(value)
@@ -27,13 +29,12 @@ pub fn read_number(field: &[u8], limit: u32, item: u64) -> Result<u32, FieldFaul
     ensures { elim result [ Ok n ↦ number_field limit field.now ≡ Ok n | Err e ↦ Refused (number_field limit field.now) item e ] }
 {
     if let [] | [b'0', _, ..] = field {
-        return Err(FieldFault::form(item));
+        return Err(FieldFault::new(item, Wrong::Form));
     }
     let value = read_digits(field, item)?;
-    if value <= u64::from(limit) {
-        Ok(value as u32)
-    } else {
-        Err(FieldFault::size(item))
+    match u32::try_from(value) {
+        Ok(number) if number <= limit => Ok(number),
+        _ => Err(FieldFault::new(item, Wrong::Size)),
     }
 }
 
@@ -42,9 +43,9 @@ pub fn read_operation(field: &[u8], item: u64) -> Result<Operation, FieldFault>
     ensures { elim result [ Ok x ↦ operation_field field.now ≡ Ok x | Err e ↦ Refused (operation_field field.now) item e ] }
 {
     let [letter] = field else {
-        return Err(FieldFault::form(item));
+        return Err(FieldFault::new(item, Wrong::Form));
     };
-    Operation::try_from(char::from(*letter)).map_err(|_| FieldFault::form(item))
+    Operation::try_from(char::from(*letter)).map_err(|_| FieldFault::new(item, Wrong::Form))
 }
 
 // The first field of a line as a number up to the limit, and the rest of the line.

@@ -106,6 +106,7 @@ impl Refusal {
     }
 }
 
+// The same number as a conversion, so that `u32::from` takes a refusal.
 impl From<Refusal> for u32 {
     ghost from_gives = { λ e r. r ≡ number_of e };
 
@@ -159,6 +160,7 @@ pub trait Source {
 }
 
 // Where faults are handed on to: it means those that it has taken, in order.
+// A trait and no closure, since a clause has to name what was taken.
 pub trait Sink {
     ghost taken: { Self → List Fault };
 

@@ -28,6 +28,7 @@ impl<'a> Unread<'a> {
         let bytes: &[u8] = if fits { bytes } else { &[] };
         Unread { bytes, answered }
     }
+
     // All that is left, for the next item to be cut off its front, and the item's number; None at the end. Who cuts it off puts the rest back.
     pub fn begin_item(&mut self) -> Option<(&'a [u8], u64)>
         ensures { elim result [ Some x ↦ (0 < length self.old.bytes.now) × (x.0.now ≡ self.old.bytes.now) × (x.1 ≡ self.old.answered + 1) × (self.new.bytes.now ≡ []) × (self.new.answered ≡ x.1) | None ↦ (self.old.bytes.now ≡ []) × (self.new.bytes.now ≡ []) × (self.new.answered ≡ self.old.answered) ] }

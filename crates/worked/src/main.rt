@@ -13,7 +13,7 @@ use trace::{Block, Operation, Source};
 
 const SHEET_INPUT: &str = "b,2,0,2,2,8\n1,r,0\n1,r,1\n1,r,2\n2,w,2\n1,r,0\n1,r,3\n1,r,2\n3,r,0\n";
 
-// A study of so many blocks, in tables that are long enough for them.
+// A study of so many blocks, in tables that are long enough for them. They are its own: the call that lends them is what is shown.
 fn show_set_up(rt: &HostRuntime, blocks: u32) -> anyhow::Result<()> {
     let mut entries: Vec<Entry> = vec![in rt.alloc(); Entry::Empty; 1]?;
     let known: Vec<Block> = vec![in rt.alloc(); Block { number: 0 }; 4_097]?;
@@ -54,7 +54,7 @@ fn name(operation: Operation) -> &'static str {
     }
 }
 
-// What a source answers next.
+// What a source answers next, in this page's words: a Display would tell them to all.
 fn show_next<S: Source>(rt: &HostRuntime, source: &mut S) -> anyhow::Result<()> {
     match source.next() {
         Ok(None) => println!(rt; "the end")?,

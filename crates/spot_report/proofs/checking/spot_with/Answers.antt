@@ -18,11 +18,7 @@ feed_all-requires-clause-long g c =
 
 pub feed_all-requires-clause-room : goal.feed_all-requires-clause-room
 feed_all-requires-clause-room g c =
-    omega (arith, c.in-Ok.ensures.answer.3, few_items c.args.trace.now, c.requires.few, ap (λ x. length (text_items x)) c.new-source.ensures.rest)
-
-pub feed_all-requires-clause-few : goal.feed_all-requires-clause-few
-feed_all-requires-clause-few g c =
-    omega (arith, c.new-source.ensures.count, few_items c.args.trace.now, c.requires.few, ap (λ x. length (text_items x)) c.new-source.ensures.rest)
+    omega (arith, c.in-Ok.ensures.answer.3, few_items c.args.trace.now, c.requires.few, ap (λ x. length (text_items x)) (c.after-source.ensures.rest (omega (arith, c.requires.few))))
 
 pub returns : goal.returns
 returns g c =
@@ -36,7 +32,7 @@ returns g c =
     let es : s₁ ≡ a.s = ap (λ x. x.settings) c.feed_all.ensures.setup ∙ o.2 in
     put_whole m a.s (lent a.tables.now) c.requires.accepted (text_items a.trace.now) last.cache.accepted (lent last.tables) (vec_items last.refused)
     (through_after m (g.M.SetMap.meaning c.in-Ok.cache.setup.map) a.s c.in-Ok.cache.setup.settings (ap g.M.SetMap.meaning o.1) o.2
-    (text_items a.trace.now) _ _ _ _ _ _ _ _ _ (ap text_items c.new-source.ensures.rest) c.new-source.ensures.count o.3 c.in-Ok.ensures.tables c.new-refused.ensures.items c.in_ok-feed_all-in-Ok.ensures.through)
+    (text_items a.trace.now) _ _ _ _ _ _ _ _ _ (ap text_items (c.after-source.ensures.rest (omega (arith, c.requires.few)))) c.after-source.ensures.count o.3 c.in-Ok.ensures.tables c.new-refused.ensures.items c.in_ok-feed_all-in-Ok.ensures.through)
     (vec_items c.in_ok-rows-in-Ok.rows)
     (λ t₀ h reached.
     (let separate : AsSeparate m₁ s₁ = subst (λ x. AsSeparate x s₁) (sym em) (subst (AsSeparate m) (sym es) c.in-Ok.ensures.faithful) in

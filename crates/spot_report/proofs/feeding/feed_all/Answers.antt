@@ -1,4 +1,4 @@
-use Rattle.std.proofs.Common.{◌≡◌, ◌+◌, [], ◌∷◌, ◌++◌, Ok, vec_items, refl, ap, ◌∙◌, rules, arith}
+use Rattle.std.proofs.Common.{◌≡◌, [], ◌∷◌, ◌++◌, Ok, vec_items, refl, ap, ◌∙◌, rules, arith}
 use Rattle.report.specs.Refused.{refused_line}
 use Rattle.spot_report.proofs.Underway.{long_after}
 use Rattle.spot_report.proofs.Turns.{fed_under, turn_accepted, turn_fault, turn_end, room_accepted, room_fault}
@@ -20,7 +20,7 @@ loop-fault-preserved-in-Ok-Accepted g c =
       setup = c.feed.ensures.setup ∙ i.setup;
       same = search rules;
       room = room_accepted _ _ _ _ f i.room;
-      underway = λ t₀ h reached. turn_accepted _ _ _ _ t₀ _ _ _ f (long_after m m s s _ _ refl refl i.same c.requires.long) (omega (arith, i.room.room)) (i.underway t₀ h reached);
+      underway = λ t₀ h reached. turn_accepted _ _ _ _ t₀ _ _ _ f (long_after m m s s _ _ refl refl i.same c.requires.long) (omega (arith, i.room)) (i.underway t₀ h reached);
     }
 
 pub loop-fault-preserved : goal.loop-fault-preserved
@@ -28,8 +28,8 @@ loop-fault-preserved g c =
     let i = c.loop-fault.invariant in
     let x = c.in-Err.fault in
     let f = fed_under (ap (λ x. g.M.SetMap.meaning x.map) i.setup) (ap (λ x. x.settings) i.setup) c.in-Err.is c.feed.ensures.fed in
-    let pushed : vec_items c.push.new.self ≡ vec_items c.loop-fault.refused ++ (refused_line (x.item + 1) x.refusal ∷ []) =
-    c.in_ok-push-in-Err.ensures.items ∙ ap (λ y. vec_items c.loop-fault.refused ++ (y ∷ [])) c.refused_line.ensures in
+    let pushed : vec_items c.push.new.self ≡ vec_items c.loop-fault.refused ++ (refused_line x.item x.refusal ∷ []) =
+    c.in_ok-push-in-Err.ensures.items ∙ ap (λ y. vec_items c.loop-fault.refused ++ (y ∷ [])) c.from.ensures in
     record {
       setup = c.feed.ensures.setup ∙ i.setup;
       same = search rules;

@@ -21,7 +21,7 @@ invariant-loop-fault g l =
       same : SameSlices l.initial.tables l.tables;
       room : Room (standing_of items n l.cache.accepted (lent l.tables));
       underway : (t₀ : Tables) (h : History) → Reached m s t₀ h l.initial.cache.accepted (lent l.initial.tables)
-          → Underway m s t₀ (reading s (n₀ + 2) items₀ h).history (vec_items l.initial.refused ++ (reading s (n₀ + 2) items₀ h).refused) items (n + 2) l.cache.accepted (lent l.tables) (vec_items l.refused);
+          → Underway m s t₀ (reading s (n₀ + 1) items₀ h).history (vec_items l.initial.refused ++ (reading s (n₀ + 1) items₀ h).refused) items (n + 1) l.cache.accepted (lent l.tables) (vec_items l.refused);
     }
 
 abbrev pub decreases-loop-fault : goal.decreases-loop-fault

@@ -6,7 +6,7 @@ pub returns-in_default : goal.returns-in_default
 returns-in_default c =
     let i = c.loop-b.invariant in
     let b = get_or c.args.field.now c.loop-b.b-index 0 in
-    (digits_stop _ _ _ i.2 i.3 c.loop-b-test.true (not_digit b (λ low. omega arith)), c.form.ensures)
+    (digits_stop _ _ _ i.2 i.3 c.loop-b-test.true (not_digit b (λ low. omega arith)), c.new.ensures)
 
 pub loop-b-preserved : goal.loop-b-preserved
 loop-b-preserved c =

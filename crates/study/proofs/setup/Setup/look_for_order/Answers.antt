@@ -1,11 +1,12 @@
-use Rattle.std.proofs.Common.{take, sym, ◌∙◌}
+use Rattle.std.proofs.Common.{take, sym, subst, ◌∙◌, IsSome}
 use Rattle.order.proofs.Blocks.{no_repeat_distinct}
+use Rattle.study.proofs.Looked.{given}
 use Rattle.study.proofs.setup.Setup.look_for_order.Goals as goal
 
-pub returns-then-rows_in_order : goal.returns-then-rows_in_order
-returns-then-rows_in_order g c y =
+pub returns : goal.returns
+returns g c e =
     record {
       few = c.requires.few;
       distinct = no_repeat_distinct (take c.args.n c.args.tables.now.known.now) (sym c.no_repeat.ensures.value ∙ c.if-not-no_repeat.false);
-      rows = c.rows_in_order.ensures c.if-rows_in_order.true;
+      rows = c.rows_in_order.ensures (given _ _ (subst IsSome c.then_some.ensures e));
     }

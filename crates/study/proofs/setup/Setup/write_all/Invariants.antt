@@ -1,4 +1,4 @@
-use Rattle.std.proofs.Common.{◌≡◌, ◌-◌, true}
+use Rattle.std.proofs.Common.{◌≡◌, ◌-◌, IfSome}
 use Rattle.study.specs.Steps.{KnownInOrder}
 use Rattle.tables.specs.Calls.{others_write_all}
 use Rattle.tables.specs.Lent.{lent, SameSlices}
@@ -8,4 +8,4 @@ abbrev pub invariant-loop-p : goal.invariant-loop-p
 invariant-loop-p g l =
     (lent l.tables ≡ others_write_all (g.M.SetMap.meaning l.self.map) l.self.settings l.w l.spot.block l.spot.place (l.p - 1) (lent l.initial.tables))
     × SameSlices l.initial.tables l.tables
-    × (l.ordered ≡ true → KnownInOrder l.self.settings l.n l.spot (lent l.tables))
+    × IfSome l.ordered (λ n. KnownInOrder l.self.settings n l.spot (lent l.tables))
