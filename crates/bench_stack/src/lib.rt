@@ -19,7 +19,7 @@ fn read_at(answer: Option<Walk>, level: usize) -> u64
 }
 
 // Refers to the blocks of a ring, one after the other: once each block was met, every reference walks down the whole ring.
-// The positions are read at the seventeen levels in turn.
+// The positions are read at the seventeen levels in turn, by their number, as the clause has it: the name would take one crate more.
 #[unsafe(no_mangle)]
 pub extern "C" fn bench_stack_ring(blocks: u32, references: u32) -> u64
     ensures { result ≡ total (max blocks 1) references }

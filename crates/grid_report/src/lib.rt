@@ -11,7 +11,7 @@ mod pieces;
 
 pub use errors::{OpenError, ReadError};
 
-// A study of a trace that comes in pieces. What has been read is no field of it, so the contracts tell it, and that the map and the settings stay.
+// A study of a trace that comes in pieces. What has been read is no field of it, so the contracts tell it; that map and settings stay is a clause each, as in `sheets`.
 #[derive(Drop)]
 pub struct Grid<M: SetMap> {
     study: SheetStudy<M>,

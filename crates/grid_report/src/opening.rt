@@ -22,7 +22,7 @@ fn refuse_sizes<M: SetMap + Copy>(heap: Global, map: M, sizes: Sizes) -> Result<
     }
 }
 
-// Tables as long as a study of these sizes asks for.
+// Tables as long as a study of these sizes asks for. The lengths are those that a set-up checks: a study tells no caller its sizes.
 fn fitting_tables(heap: Global, sizes: Sizes) -> Result<OwnTables, AllocError>
     requires { unlimited (settings_of sizes) ≡ false }
     ensures { IfOk result (λ t. short (settings_of sizes) (lists_of t) ≡ false) }

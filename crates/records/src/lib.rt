@@ -49,7 +49,7 @@ impl<'a> Source for Records<'a> {
         let Some((bytes, item)) = self.unread.begin_item() else {
             return Ok(None);
         };
-        // a record's bytes by name, in their order
+        // a record's bytes by name, in their order, so that no index stands for one
         let [processor, operation, a3, a2, a1, a0, rest @ ..] = bytes else {
             return Err(Fault::from(RecordFault {
                 refusal: Refusal::CutOff,

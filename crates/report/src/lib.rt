@@ -91,7 +91,7 @@ pub trait Row: fmt::Display {
     ghost shows: { (x : Self) → Self.output x ≡ Some (text x) };
 }
 
-// Refused lines and rows, to be written.
+// Refused lines and rows, to be written, whoever has them; a report has lists of its own.
 #[derive(Clone, Copy)]
 pub struct Shown<'a, R> {
     pub refused: &'a [RefusedLine],

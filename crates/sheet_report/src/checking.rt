@@ -24,7 +24,7 @@ const MARKS: usize = 4_096;
 const COUNTERS: usize = 8_192;
 
 // A trace put to a study of these sizes on the map, with the sheet's tables.
-// The heap is lent to each of these, and each asks for the bound that split_input's clause gives the trace.
+// Heap, trace and the trace's bound, which split_input gives, stay three: a struct of them would be made in one function and taken apart in the next.
 fn study_trace<M: SetMap + Copy>(
     heap: Global,
     map: M,

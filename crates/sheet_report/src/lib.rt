@@ -9,7 +9,7 @@ mod settings;
 pub use checking::evening_sheet;
 pub use settings::read_settings;
 
-// What line 1 of an input says.
+// What line 1 of an input says. Like the spot check's but for the numbers: one generic type would give the definitions of both a parameter.
 #[derive(Clone, Copy)]
 pub struct Chosen {
     pub map: Map,

@@ -13,6 +13,7 @@ use trace::{Block, Refusal, Refused};
 
 // What a cache is set up with: a map, and settings within their limits.
 // Only what makes one, or is asked before there is one, takes the map and the settings apart.
+// What a number must be in these settings stays asked for: a type for it would have to carry the settings along.
 #[derive(Drop)]
 pub(super) struct Setup<M: SetMap> {
     pub(super) map: M,

@@ -20,7 +20,7 @@ use std::alloc::Global;
 use text::source::Text;
 
 // A trace put to a cache with these tables, which a set-up accepts.
-// The heap is lent to each of these, and each asks for the bound that split_input's clause gives the trace.
+// Heap, trace and the trace's bound, which split_input gives, stay three: a struct of them would be made in one function and taken apart in the next.
 fn spot_with<M: SetMap + Drop>(
     heap: Global,
     map: M,

@@ -11,7 +11,7 @@ mod settings;
 
 pub use checking::spot_check;
 
-// What line 1 of an input says.
+// What line 1 of an input says. Like the evening sheet's but for the numbers: one generic type would give the definitions of both a parameter.
 #[derive(Clone, Copy)]
 pub struct Chosen {
     pub map: Map,

@@ -11,7 +11,7 @@ use setmap::SetMap;
 use single::{LentTables, SingleCache, Tallies};
 use std::alloc::{AllocError, Global};
 
-// What has been counted of a processor that the cache has.
+// What has been counted of a processor that the cache has. The loop below says that it has it; a type for that would be made and taken apart at once.
 fn tally_of<M: SetMap>(cache: &SingleCache<M>, p: u32, tables: &LentTables<'_>) -> Tallies
     requires long { short (M.meaning cache.now.setup.map) cache.now.setup.settings (lent tables.now) ≡ false }
     requires within { (1 ≤ p) × (p ≤ cache.now.setup.settings.processors) }

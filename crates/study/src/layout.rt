@@ -36,7 +36,7 @@ impl<M: SetMap> Setup<M> {
         self.part_start(self.settings.blocks as usize, p) + place
     }
 
-    // Whether a table is too short.
+    // Whether a table is too short: a test and no refusal, since a feed tells it as a fault and the other calls as a refusal.
     pub(super) fn is_short(&self, tables: SeenTables<'_>) -> bool
         ensures { result ≡ short self.now.settings (seen tables.entry) }
     {

@@ -22,7 +22,8 @@ fn note_all(hints: &mut Hints, known: &[Block]) {
 
 impl<M: SetMap> Setup<M> {
     // Whether each processor's entries and marks are in order, where the first n blocks are known, and distinct.
-    // By offsets, in which the definitions are written: chunks of the two tables, side by side, would first have to be shown to be these parts.
+    // By offsets and a loop, as the definitions are written: chunks of both tables would have to be cut to the processors, zipped,
+    // and shown to be these parts, which is longer.
     fn rows_in_order(&self, n: u32, hints: &mut Hints, tables: &LentTables<'_>) -> bool
         requires few { n ≤ self.now.settings.blocks }
         requires long { Long self.now.settings (lent tables.now) }

@@ -28,7 +28,8 @@ fn reaches(walk: &Walk, level: u32, ways: u32) -> bool
 }
 
 impl<M: SetMap> Setup<M> {
-    // The first refusal of a question.
+    // The first refusal of a question. Processor, level and ways stay three numbers, as the public questions take them:
+    // a struct of them would be made and taken apart at once.
     fn refuse_question(
         &self,
         p: u32,

@@ -4,12 +4,6 @@ use Rattle.std.proofs.lemmas.Bool.{cases_lt}
 use Rattle.stack.proofs.Walks.{one_down, one_down_le}
 use Rattle.stack.proofs.walk.sum_levels.Goals as goal
 
-pub loop-i-init : goal.loop-i-init
-loop-i-init c =
-    let n : length c.args.sharing.now ≡ 18 = c.requires.wide.0 in
-    let d = at_drop_all sum c.args.sharing.now 18 (omega arith) in
-    (sym d, (λ k p q. absurd (omega arith)), refl)
-
 pub overflow_add-above-in-loop-i : goal.overflow_add-above-in-loop-i
 overflow_add-above-in-loop-i c =
     omega (arith, one_down_le c.args.sharing.now c.loop-i.i c.loop-i.above c.loop-i-test.true (omega (arith, c.requires.wide.0)) c.loop-i.invariant.0, c.requires.few 0 (omega arith))
@@ -36,6 +30,3 @@ loop-i-preserved c =
           ]),
       length-set _ _ _ ∙ c.loop-i.invariant.2,
     )
-
-pub returns : goal.returns
-returns c = record { each = λ i h. c.loop-i.invariant.1 i (omega arith) h; many = c.loop-i.invariant.2 }

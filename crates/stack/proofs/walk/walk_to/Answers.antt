@@ -5,12 +5,6 @@ use Rattle.stack.proofs.Stops.{found_is}
 use Rattle.stack.proofs.Walks.{position_split}
 use Rattle.stack.proofs.walk.walk_to.Goals as goal
 
-pub sum_levels-requires : goal.sum_levels-requires
-sum_levels-requires g c =
-    let t = c.count_above-stop.ensures.tallied in
-    let l = length-take (stop c.args.q c.args.es.now) c.args.es.now in
-    record { wide = (t.wide, t.deep); few = λ i h. omega (arith, t.few i h) }
-
 pub returns : goal.returns
 returns g c =
     let m = g.M.SetMap.meaning c.args.map.now in

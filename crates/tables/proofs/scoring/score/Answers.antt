@@ -24,10 +24,5 @@ loop-i-preserved c m q es t =
       | else-reaches w ↦ w.counters-is ∙ scores_past m c.args.s c.args.from q es _ t i _ _ h f e (r ∙ w.if-reaches.false)
     ]
 
-pub returns-after-loop-i : goal.returns-after-loop-i
-returns-after-loop-i c m q es t =
-    let n : c.loop-i.i ≡ min c.args.s.levels 17 = omega (arith, c.min-levels.ensures, t.seventeen, length-take c.min-levels.result c.args.walk.now.positions, c.loop-i-test.false, c.loop-i.auto.i-end) in
-    c.loop-i.invariant m q es t ∙ ap (λ j. scores m c.args.s c.args.from q (stack es) j c.args.counters.now) n
-
 pub returns-else-is_ok : goal.returns-else-is_ok
 returns-else-is_ok c m q es t = scores_absent m c.args.s c.args.from q es _ t _ _ (omega arith) (sym c.is_ok.ensures.value ∙ c.if-is_ok.false)
