@@ -24,6 +24,7 @@ const PIECE: usize = 1_048_576;
 const TOLD: u64 = 16;
 
 // Reads the next piece in place of the last; it is full unless the trace ends, though a pipe gives less at a time.
+// It has room for a byte more than it reads, since a list that is full would grow to look for the end.
 fn next_piece<R: Read>(trace: &mut R, piece: &mut Vec<u8>) -> io::Result<usize> {
     piece.clear();
     trace.by_ref().take(PIECE as u64).read_to_end(piece)
@@ -36,7 +37,7 @@ fn read_trace<M: SetMap + Copy, R: Read>(
     trace: &mut R,
     progress: bool,
 ) -> anyhow::Result<()> {
-    let mut piece: Vec<u8> = Vec::with_capacity(rt.alloc(), PIECE)?;
+    let mut piece: Vec<u8> = Vec::with_capacity(rt.alloc(), PIECE + 1)?;
     let mut bytes: u64 = 0;
     for turn in 0..u64::MAX {
         let read = next_piece(trace, &mut piece).map_err(|error| anyhow!(

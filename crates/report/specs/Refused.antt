@@ -7,11 +7,11 @@ use Rattle.rendering.specs.Lines.{titled, ended}
 use Rattle.report.specs.declared.RefusedLine.{RefusedLine}
 
 abbrev pub refused_line : ℕ → Refusal → RefusedLine
-refused_line line x = record { line = line; refusal = x }
+refused_line line x = record { line = line; number = number_of x }
 
 -- what is written of a refused line, without its line feed and as a line
 abbrev pub refused_shown : RefusedLine → List ℕ
-refused_shown x = titled (codes "refused") (x.line ∷ (number_of x.refusal ∷ []))
+refused_shown x = titled (codes "refused") (x.line ∷ (x.number ∷ []))
 
 abbrev pub refused_text : RefusedLine → List ℕ
 refused_text x = ended (refused_shown x)

@@ -55,17 +55,21 @@ pub fn take_map(line: &[u8]) -> Result<(Map, &[u8]), Refusal>
 }
 
 // A refused line of the input, by its number from 1, or 0 for the input as a whole, as it is written: refused,0,12.
+// Its refusal is a number: who only writes lines may have numbers that no refusal has.
 #[derive(Clone, Copy, PartialEq, Eq)]
 pub struct RefusedLine {
     pub line: u64,
-    pub refusal: Refusal,
+    pub number: u32,
 }
 
 impl RefusedLine {
     pub fn new(line: u64, refusal: Refusal) -> RefusedLine
         ensures { result ≡ refused_line line refusal }
     {
-        RefusedLine { line, refusal }
+        RefusedLine {
+            line,
+            number: refusal.number(),
+        }
     }
 }
 

@@ -12,7 +12,7 @@ impl fmt::Display for RefusedLine {
     ghost output = { λ x. Some (refused_shown x) };
 
     fn fmt<W: fmt::Write>(&self, f: &mut fmt::Formatter<W>) -> fmt::Result {
-        let numbers = [self.line, u64::from(self.refusal.number())];
+        let numbers = [self.line, u64::from(self.number)];
         write!(f, "{}", Titled("refused", &numbers))
     }
 }

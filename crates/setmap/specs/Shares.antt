@@ -41,6 +41,9 @@ shared_self m a = all m.levels 0
     all zero i = refl
     all (suc n) i = rw (eq-eqb (m.set i a) (m.set i a) refl) (ap suc (all n (suc i)))
 
+pub shared_same : (m : Mapping) (a b : ℕ) → a ≡ b → shared m a b ≡ m.levels
+shared_same m a b e = ap (λ x. shared m a x) (sym e) ∙ shared_self m a
+
 module _ (m : Mapping) (law : Lawful m) where
   same_at : (i j a b : ℕ) → i ≡ j → m.set j a ≡ m.set j b → m.set i a ≡ m.set i b
   same_at i j a b e k = rw e k

@@ -1,7 +1,7 @@
 #![tactic(auto)]
 
-use report::{read_input, render};
-use sheet_report::evening_sheet;
+use report::read_input;
+use sheet_report::{evening_sheet, render};
 
 // As in spot: one function for both would take the report as a closure, and the host's streams into a library.
 fn run(rt: &HostRuntime) -> anyhow::Result<()> {

@@ -1,2 +1,2 @@
-mod Readings
-mod Whole
+pub mod Readings
+pub mod Whole

@@ -12,7 +12,7 @@ use Rattle.sheets.specs.Sheets as study
 use Rattle.sheet_report.specs.Evening.{verdict, reading}
 
 module _ (s : Settings) where
-  verdict_same : (h : History) (r : Reference) → length h < 2 ^ 32 - 1 → study.verdict s h r ≡ verdict s h r
+  pub verdict_same : (h : History) (r : Reference) → length h < 2 ^ 32 - 1 → study.verdict s h r ≡ verdict s h r
   verdict_same h r few = cond-false (eqb (length h) (2 ^ 32 - 1)) _ _ (ne_eqb (length h) (2 ^ 32 - 1) (λ e. omega arith))
 
   by_verdict : (line : ℕ) (r : Reference) (items : List Item) (h : History) (v : Option Refusal) → study.reading s (line + 1) items (access s r ∷ h) ≡ reading s (line + 1) items (access s r ∷ h)

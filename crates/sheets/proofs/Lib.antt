@@ -1,5 +1,5 @@
-mod Runs
-mod Lines
-mod Verdicts
+pub mod Runs
+pub mod Lines
+pub mod Verdicts
 pub mod Feeds
 mod Steps

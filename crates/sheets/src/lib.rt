@@ -3,7 +3,6 @@
 use caches::Figures;
 
 mod faults;
-mod lending;
 mod owned;
 mod owning;
 mod rendered;

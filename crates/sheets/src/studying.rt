@@ -7,7 +7,6 @@ ghost use Rattle.sheets.specs.Studies.{HasAccepted, PutThrough};
 ghost use Rattle.tables.specs.Calls.{set_up_refusal};
 
 use super::faults::Faults;
-use super::lending::feed_all_on;
 use super::owned::OwnTables;
 use super::owning::SheetStudy;
 use super::rows::ClosedSheet;
@@ -55,8 +54,7 @@ impl<M: SetMap + Copy> SheetStudy<M> {
         ensures answered { OnOk result (S.answered source.new ≡ S.answered source.old + length (S.items source.old)) }
     {
         let mut faults = Faults::none(heap);
-        let fed = feed_all_on(
-            &mut self.study,
+        let fed = self.study.feed_all(
             source,
             self.tables.entries.as_mut_slice(),
             self.tables.known.as_mut_slice(),

@@ -39,6 +39,8 @@ pub(super) fn touch(set: &mut [Frame], block: Block) -> bool
 }
 
 // Another's write of a block of the set; whether the block was dropped.
+// Inlined, since a write calls it for each other processor, and mostly it finds nothing to do.
+#[inline(always)]
 pub(super) fn lose(set: &mut [Frame], block: Block) -> bool
     ensures dropped { result ≡ among block (list_of set.old) }
     ensures after { set.new ≡ relisted (without block (list_of set.old)) set.old }

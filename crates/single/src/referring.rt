@@ -1,13 +1,13 @@
 ghost use Rattle.std.specs.Prelude.{◌≡◌, ◌≤◌};
-ghost use Rattle.single.specs.Calls.{Outcome, own_reference, others_write_to, others_write_all, applied, reference_refusal, referenced};
+ghost use Rattle.single.specs.Calls.{Outcome, own_reference, others_write_to, others_write_all, applied, reference_refusal, referenced, tables_of};
 ghost use Rattle.single.specs.Lent.{lent, SameSlices};
 ghost use Rattle.single.specs.Limits.{Long};
 ghost use Rattle.trace.specs.Refusals.{unless_refused};
 
-use super::LentTables;
 use super::cache::SingleCache;
 use super::lists::{lose, touch};
 use super::setup::{Setup, counters_start};
+use super::{Frame, LentTables};
 use places::bump;
 use setmap::SetMap;
 use trace::{Block, Operation, Reference, Refusal};
@@ -84,8 +84,8 @@ impl<M: SetMap> SingleCache<M> {
         self.setup.check_processor(p)
     }
 
-    // A reference, which is accepted or leaves everything as it was.
-    pub fn reference(&mut self, r: Reference, tables: &mut LentTables<'_>) -> Result<(), Refusal>
+    // A reference on tables that a struct lends, which is accepted or leaves everything as it was.
+    pub fn reference_on(&mut self, r: Reference, tables: &mut LentTables<'_>) -> Result<(), Refusal>
         ensures answer { result ≡ (referenced (M.meaning self.old.setup.map) self.old.setup.settings self.old.accepted (lent tables.old) r).answer }
         ensures accepted { self.new.accepted ≡ (referenced (M.meaning self.old.setup.map) self.old.setup.settings self.old.accepted (lent tables.old) r).accepted }
         ensures tables { lent tables.new ≡ (referenced (M.meaning self.old.setup.map) self.old.setup.settings self.old.accepted (lent tables.old) r).tables }
@@ -96,5 +96,21 @@ impl<M: SetMap> SingleCache<M> {
         self.setup.apply(r, tables);
         self.accepted += 1;
         Ok(())
+    }
+
+    // The same on tables lent one by one, as in `set_up`.
+    pub fn reference(
+        &mut self,
+        r: Reference,
+        frames: &mut [Frame],
+        counters: &mut [u32],
+    ) -> Result<(), Refusal>
+        ensures answer { result ≡ (referenced (M.meaning self.old.setup.map) self.old.setup.settings self.old.accepted (tables_of frames.old counters.old) r).answer }
+        ensures accepted { self.new.accepted ≡ (referenced (M.meaning self.old.setup.map) self.old.setup.settings self.old.accepted (tables_of frames.old counters.old) r).accepted }
+        ensures tables { tables_of frames.new counters.new ≡ (referenced (M.meaning self.old.setup.map) self.old.setup.settings self.old.accepted (tables_of frames.old counters.old) r).tables }
+        ensures setup { self.new.setup ≡ self.old.setup }
+    {
+        let mut tables = LentTables { frames, counters };
+        self.reference_on(r, &mut tables)
     }
 }

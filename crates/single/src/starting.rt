@@ -1,5 +1,5 @@
 ghost use Rattle.std.specs.Prelude.{◌≡◌, Some, None, Ok, Err};
-ghost use Rattle.single.specs.Calls.{cleared, set_up_refusal, sized};
+ghost use Rattle.single.specs.Calls.{cleared, set_up_refusal, sized, tables_of};
 ghost use Rattle.single.specs.Lent.{lent, SameSlices};
 ghost use Rattle.single.specs.Limits.{Long};
 ghost use Rattle.single.specs.Runs.{AsSeparate};
@@ -7,7 +7,7 @@ ghost use Rattle.single.specs.Runs.{AsSeparate};
 use super::cache::SingleCache;
 use super::limits::check_settings;
 use super::setup::{Setup, cache_frames};
-use super::{LentTables, Settings, TableSizes};
+use super::{Frame, LentTables, Settings, TableSizes};
 use setmap::SetMap;
 use trace::{Refusal, Refused};
 
@@ -36,8 +36,8 @@ impl<M: SetMap> Setup<M> {
 }
 
 impl<M: SetMap> SingleCache<M> {
-    // A cache with its tables cleared; or the map back, the tables as they were, and why.
-    pub fn set_up(
+    // A cache with its tables, which a struct lends, cleared; or the map back, the tables as they were, and why.
+    pub fn set_up_on(
         map: M,
         s: Settings,
         tables: &mut LentTables<'_>,
@@ -53,5 +53,21 @@ impl<M: SetMap> SingleCache<M> {
         }
         setup.clear(tables);
         Ok(SingleCache { setup, accepted: 0 })
+    }
+
+    // The same on tables lent one by one. What a list holds after a call is known where the call is lent its slice,
+    // and not where a struct made beside the call is.
+    pub fn set_up(
+        map: M,
+        s: Settings,
+        frames: &mut [Frame],
+        counters: &mut [u32],
+    ) -> Result<SingleCache<M>, Refused<M>>
+        ensures answer { elim result [ Ok o ↦ (set_up_refusal (M.meaning map) s (tables_of frames.old counters.old) ≡ None) × (o.setup.map ≡ map) × (o.setup.settings ≡ s) × (o.accepted ≡ 0) | Err x ↦ (set_up_refusal (M.meaning map) s (tables_of frames.old counters.old) ≡ Some x.refusal) × (x.map ≡ map) ] }
+        ensures tables { tables_of frames.new counters.new ≡ elim result [ Ok o ↦ cleared (M.meaning map) s (tables_of frames.old counters.old) | Err x ↦ tables_of frames.old counters.old ] }
+        ensures faithful { AsSeparate (M.meaning map) s }
+    {
+        let mut tables = LentTables { frames, counters };
+        SingleCache::set_up_on(map, s, &mut tables)
     }
 }

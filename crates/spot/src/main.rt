@@ -1,7 +1,7 @@
 #![tactic(auto)]
 
-use report::{read_input, render};
-use spot_report::spot_check;
+use report::read_input;
+use spot_report::{render, spot_check};
 
 // As in sheet: one function for both would take the report as a closure, and the host's streams into a library.
 fn run(rt: &HostRuntime) -> anyhow::Result<()> {

@@ -32,7 +32,7 @@ fn spot_with<M: SetMap + Drop>(
     requires few { length trace.now ≤ 65536 }
     ensures { Answered (spotted_on (M.meaning map) s (text_items trace.now)) result }
 {
-    match SingleCache::set_up(map, s, tables) {
+    match SingleCache::set_up_on(map, s, tables) {
         Ok(mut cache) => {
             let mut refused = Vec::new(heap);
             // Line 1 counts as answered, so that an item's number is its line's.

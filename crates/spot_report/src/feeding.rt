@@ -29,7 +29,7 @@ pub(super) fn feed<M: SetMap, S: Source>(
         return Ok(Fed::End);
     };
     let item = source.count();
-    cache.reference(r, tables).map_err(|refusal| Fault {
+    cache.reference_on(r, tables).map_err(|refusal| Fault {
         refusal,
         item,
         layer: Layer::Study,

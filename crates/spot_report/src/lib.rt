@@ -10,6 +10,7 @@ mod rows;
 mod settings;
 
 pub use checking::spot_check;
+pub use rendered::render;
 
 // What line 1 of an input says. Like the evening sheet's but for the numbers: one generic type would give the definitions of both a parameter.
 #[derive(Clone, Copy)]

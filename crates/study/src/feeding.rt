@@ -4,12 +4,14 @@ ghost use Rattle.study.specs.Limits.{Long};
 ghost use Rattle.study.specs.Steps.{kept_of, NotShort};
 ghost use Rattle.tables.specs.Calls.{Kept, Outcome, fed_answer, fed_first, fed, used_up};
 ghost use Rattle.tables.specs.Lent.{lent, SameSlices};
+ghost use Rattle.tables.specs.Tables.{tables_of};
 
 use super::open::OpenStudy;
 use order::hints::Hints;
 use setmap::SetMap;
-use tables::LentTables;
-use trace::{Fault, Fed, Layer, Refusal, Source};
+use stack::Entry;
+use tables::{LentTables, Mark};
+use trace::{Block, Fault, Fed, Layer, Refusal, Source};
 
 // What a feed answers where its n-th item is a reference that was answered so.
 fn answer_feed(n: u64, answer: Result<(), Refusal>) -> Result<Fed, Fault>
@@ -68,8 +70,8 @@ impl<M: SetMap> OpenStudy<M> {
         }
     }
 
-    // Puts the next item of a source to the study; too short tables leave the source as it was.
-    pub fn feed<S: Source>(
+    // Puts the next item of a source to the study, on tables that a struct lends; too short tables leave the source as it was.
+    pub fn feed_on<S: Source>(
         &mut self,
         source: &mut S,
         tables: &mut LentTables<'_>,
@@ -84,5 +86,30 @@ impl<M: SetMap> OpenStudy<M> {
     {
         self.refuse_short(tables)?;
         self.feed_next(source, None, tables)
+    }
+
+    // The same on tables lent one by one, as in `reference`.
+    pub fn feed<S: Source>(
+        &mut self,
+        source: &mut S,
+        entries: &mut [Entry],
+        known: &mut [Block],
+        marks: &mut [Mark],
+        counters: &mut [u32],
+    ) -> Result<Fed, Fault>
+        ensures answer { result ≡ (fed (M.meaning self.old.setup.map) self.old.setup.settings (kept_of self.old.known self.old.accepted) (tables_of entries.old known.old marks.old counters.old) (S.items source.old) (S.answered source.old)).answer }
+        ensures kept { kept_of self.new.known self.new.accepted ≡ (fed (M.meaning self.old.setup.map) self.old.setup.settings (kept_of self.old.known self.old.accepted) (tables_of entries.old known.old marks.old counters.old) (S.items source.old) (S.answered source.old)).kept }
+        ensures tables { tables_of entries.new known.new marks.new counters.new ≡ (fed (M.meaning self.old.setup.map) self.old.setup.settings (kept_of self.old.known self.old.accepted) (tables_of entries.old known.old marks.old counters.old) (S.items source.old) (S.answered source.old)).tables }
+        ensures setup { self.new.setup ≡ self.old.setup }
+        ensures items { S.items source.new ≡ drop (used_up self.old.setup.settings (tables_of entries.old known.old marks.old counters.old)) (S.items source.old) }
+        ensures answered { S.answered source.new + length (S.items source.new) ≡ S.answered source.old + length (S.items source.old) }
+    {
+        let mut tables = LentTables {
+            entries,
+            known,
+            marks,
+            counters,
+        };
+        self.feed_on(source, &mut tables)
     }
 }

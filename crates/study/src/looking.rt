@@ -1,4 +1,4 @@
-ghost use Rattle.std.specs.Prelude.{◌≡◌, ◌+◌, ◌≤◌, true, length, take, IsSome};
+ghost use Rattle.std.specs.Prelude.{◌≡◌, ◌+◌, ◌≤◌, true, length, take};
 ghost use Rattle.order.specs.Order.{InOrder};
 ghost use Rattle.order.specs.Looks.{no_repeat};
 ghost use Rattle.study.specs.Limits.{Long};
@@ -47,18 +47,18 @@ impl<M: SetMap> Setup<M> {
         true
     }
 
-    // The hints of the first n blocks, where these are known and the tables are in order; none where they are not.
-    pub(super) fn look_for_order(&self, n: u32, tables: &LentTables<'_>) -> Option<Hints>
+    // Whether the tables are in order, where the first n blocks are known; the hints are then those of these blocks.
+    // The hints are lent: a table of them handed back by value would be copied at each step on its way.
+    pub(super) fn look_for_order(&self, n: u32, hints: &mut Hints, tables: &LentTables<'_>) -> bool
         requires few { n ≤ self.now.settings.blocks }
         requires long { Long self.now.settings (lent tables.now) }
-        ensures { IsSome result → InOrder self.now.settings n (lent tables.now) }
+        ensures { result ≡ true → InOrder self.now.settings n (lent tables.now) }
     {
         let known = &tables.known[..n as usize];
         if !no_repeat(known) {
-            return None;
+            return false;
         }
-        let mut hints = Hints::none();
-        note_all(&mut hints, known);
-        self.rows_in_order(n, &mut hints, tables).then_some(hints)
+        note_all(hints, known);
+        self.rows_in_order(n, hints, tables)
     }
 }

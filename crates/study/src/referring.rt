@@ -4,12 +4,14 @@ ghost use Rattle.study.specs.Limits.{Long};
 ghost use Rattle.study.specs.Steps.{kept_of, known_then, Found};
 ghost use Rattle.tables.specs.Calls.{Kept, Outcome, place_of, referenced};
 ghost use Rattle.tables.specs.Lent.{lent, SameSlices};
+ghost use Rattle.tables.specs.Tables.{tables_of};
 
 use super::blocks::{Spot, seek_block};
 use super::open::OpenStudy;
 use order::hints::Hints;
 use setmap::SetMap;
-use tables::LentTables;
+use stack::Entry;
+use tables::{LentTables, Mark};
 use trace::{Block, Reference, Refusal};
 
 // How many blocks are known after a reference to the block at a place: one more where the place is new.
@@ -103,8 +105,8 @@ impl<M: SetMap> OpenStudy<M> {
         Ok(())
     }
 
-    // A reference, which is accepted or leaves everything as it was.
-    pub fn reference(&mut self, r: Reference, tables: &mut LentTables<'_>) -> Result<(), Refusal>
+    // A reference on tables that a struct lends, which is accepted or leaves everything as it was.
+    pub fn reference_on(&mut self, r: Reference, tables: &mut LentTables<'_>) -> Result<(), Refusal>
         ensures answer { result ≡ (referenced (M.meaning self.old.setup.map) self.old.setup.settings (kept_of self.old.known self.old.accepted) (lent tables.old) r).answer }
         ensures kept { kept_of self.new.known self.new.accepted ≡ (referenced (M.meaning self.old.setup.map) self.old.setup.settings (kept_of self.old.known self.old.accepted) (lent tables.old) r).kept }
         ensures tables { lent tables.new ≡ (referenced (M.meaning self.old.setup.map) self.old.setup.settings (kept_of self.old.known self.old.accepted) (lent tables.old) r).tables }
@@ -115,5 +117,29 @@ impl<M: SetMap> OpenStudy<M> {
             return Err(Refusal::ShortTable);
         }
         self.take_reference(r, None, tables)
+    }
+
+    // The same on tables lent one by one. What a list holds after a call is known where the call is lent its slice,
+    // and not where a struct made beside the call is.
+    pub fn reference(
+        &mut self,
+        r: Reference,
+        entries: &mut [Entry],
+        known: &mut [Block],
+        marks: &mut [Mark],
+        counters: &mut [u32],
+    ) -> Result<(), Refusal>
+        ensures answer { result ≡ (referenced (M.meaning self.old.setup.map) self.old.setup.settings (kept_of self.old.known self.old.accepted) (tables_of entries.old known.old marks.old counters.old) r).answer }
+        ensures kept { kept_of self.new.known self.new.accepted ≡ (referenced (M.meaning self.old.setup.map) self.old.setup.settings (kept_of self.old.known self.old.accepted) (tables_of entries.old known.old marks.old counters.old) r).kept }
+        ensures tables { tables_of entries.new known.new marks.new counters.new ≡ (referenced (M.meaning self.old.setup.map) self.old.setup.settings (kept_of self.old.known self.old.accepted) (tables_of entries.old known.old marks.old counters.old) r).tables }
+        ensures setup { self.new.setup ≡ self.old.setup }
+    {
+        let mut tables = LentTables {
+            entries,
+            known,
+            marks,
+            counters,
+        };
+        self.reference_on(r, &mut tables)
     }
 }

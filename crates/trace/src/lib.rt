@@ -129,11 +129,11 @@ pub enum Layer {
     Study,
 }
 
-// A refused item: why, which one by the source's count, and who refused it.
+// A refused item: which one by the source's count, why, and who refused it. The number first: a list of many is a third shorter so.
 #[derive(Clone, Copy, PartialEq, Eq)]
 pub struct Fault {
-    pub refusal: Refusal,
     pub item: u64,
+    pub refusal: Refusal,
     pub layer: Layer,
 }
 

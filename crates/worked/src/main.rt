@@ -2,9 +2,8 @@
 #![tactic(auto)]
 
 use records::Records;
-use report::render;
 use setmap::bit_choice::BitChoice;
-use sheet_report::evening_sheet;
+use sheet_report::{evening_sheet, render};
 use stack::Entry;
 use study::OpenStudy;
 use tables::{Mark, Settings};

@@ -14,7 +14,7 @@ feed_all-requires-clause-long g c =
     let m = g.M.SetMap.meaning c.args.map in
     let o = c.in-Ok.ensures.answer in
     let t = c.args.tables.now in
-    long_after m _ c.args.s _ t c.set_up.new.tables (ap g.M.SetMap.meaning o.1) o.2 c.in-Ok.ensures.same (accepted_long m c.args.s (lent t) c.requires.accepted)
+    long_after m _ c.args.s _ t c.set_up_on.new.tables (ap g.M.SetMap.meaning o.1) o.2 c.in-Ok.ensures.same (accepted_long m c.args.s (lent t) c.requires.accepted)
 
 pub feed_all-requires-clause-room : goal.feed_all-requires-clause-room
 feed_all-requires-clause-room g c =

@@ -1,6 +1,5 @@
-use Rattle.std.proofs.Common.{take, sym, subst, ◌∙◌, IsSome}
+use Rattle.std.proofs.Common.{take, sym, ◌∙◌}
 use Rattle.order.proofs.Blocks.{no_repeat_distinct}
-use Rattle.study.proofs.Looked.{given}
 use Rattle.study.proofs.setup.Setup.look_for_order.Goals as goal
 
 pub returns : goal.returns
@@ -8,5 +7,5 @@ returns g c e =
     record {
       few = c.requires.few;
       distinct = no_repeat_distinct (take c.args.n c.args.tables.now.known.now) (sym c.no_repeat.ensures.value ∙ c.if-not-no_repeat.false);
-      rows = c.rows_in_order.ensures (given _ _ (subst IsSome c.then_some.ensures e));
+      rows = c.rows_in_order.ensures e;
     }

@@ -1,5 +1,5 @@
 use Rattle.single.proofs.Worlds.{as_separate}
-use Rattle.single.proofs.cache.SingleCache.set_up.Goals as goal
+use Rattle.single.proofs.cache.SingleCache.set_up_on.Goals as goal
 
 pub returns-in_err-setup-clause-faithful : goal.returns-in_err-setup-clause-faithful
 returns-in_err-setup-clause-faithful g c = as_separate (g.M.SetMap.meaning c.args.map) (g.met.M.SetMap.lawful c.args.map) c.args.s
