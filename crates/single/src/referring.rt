@@ -6,8 +6,8 @@ ghost use Rattle.trace.specs.Refusals.{unless_refused};
 
 use super::cache::SingleCache;
 use super::lists::{lose, touch};
-use super::setup::{Setup, counters_start};
-use super::{Frame, LentTables};
+use super::setup::{Setup, counters_start, set_start};
+use super::{Frame, LentTables, Settings};
 use places::bump;
 use setmap::SetMap;
 use trace::{Block, Operation, Reference, Refusal};
@@ -20,7 +20,7 @@ impl<M: SetMap> Setup<M> {
         ensures done { lent tables.new ≡ own_reference (M.meaning self.now.map) self.now.settings p block (lent tables.old) }
         ensures same { SameSlices tables.old tables.new }
     {
-        let at = self.set_start(p, block);
+        let at = set_start(&self.map, self.settings, p, block);
         let end = at + self.settings.ways as usize;
         let hit = touch(&mut tables.frames[at..end], block);
         let first = counters_start(p);
@@ -30,14 +30,15 @@ impl<M: SetMap> Setup<M> {
         }
     }
 
-    // What another's write does to processor p.
-    fn write_to(&self, p: u32, block: Block, tables: &mut LentTables<'_>)
-        requires { (1 ≤ p) × ((p ≤ self.now.settings.processors) × (Long (M.meaning self.now.map) self.now.settings (lent tables.old))) }
+    // What another's write does to processor p, in settings that are these.
+    fn write_to(&self, s: Settings, p: u32, block: Block, tables: &mut LentTables<'_>)
+        requires settings { s ≡ self.now.settings }
+        requires asked { (1 ≤ p) × ((p ≤ self.now.settings.processors) × (Long (M.meaning self.now.map) self.now.settings (lent tables.old))) }
         ensures done { lent tables.new ≡ others_write_to (M.meaning self.now.map) self.now.settings p block (lent tables.old) }
         ensures same { SameSlices tables.old tables.new }
     {
-        let at = self.set_start(p, block);
-        let end = at + self.settings.ways as usize;
+        let at = set_start(&self.map, s, p, block);
+        let end = at + s.ways as usize;
         if lose(&mut tables.frames[at..end], block) {
             bump(tables.counters, counters_start(p) + 2);
         }
@@ -49,9 +50,10 @@ impl<M: SetMap> Setup<M> {
         ensures done { lent tables.new ≡ others_write_all (M.meaning self.now.map) self.now.settings w block self.now.settings.processors (lent tables.old) }
         ensures same { SameSlices tables.old tables.new }
     {
-        for p in 1..=self.settings.processors {
+        let s = self.settings;
+        for p in 1..=s.processors {
             if p != w {
-                self.write_to(p, block, tables);
+                self.write_to(s, p, block, tables);
             }
         }
     }

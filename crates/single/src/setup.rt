@@ -39,6 +39,18 @@ pub(super) fn counters_start(p: u32) -> usize
     (p as usize - 1) * 3
 }
 
+// Where the frames of processor p's set of the block begin.
+// By the settings and no method: behind a lent set-up they would be read anew for each processor that a write passes.
+pub(super) fn set_start<M: SetMap>(map: &M, s: Settings, p: u32, block: Block) -> usize
+    requires limited { Limited s }
+    requires asked { (1 ≤ p) × (p ≤ s.processors) }
+    ensures value { result ≡ set_start (M.meaning map.now) s p (set_of (M.meaning map.now) s block) }
+    ensures within { result + s.ways ≤ frames_needed (M.meaning map.now) s }
+{
+    (p as usize - 1) * cache_frames(map, s)
+        + map.set(s.level, block.number) as usize * s.ways as usize
+}
+
 impl<M: SetMap> Setup<M> {
     // The map and the settings; or the map back, and why no set-up takes the settings.
     pub(super) fn new(map: M, settings: Settings) -> Result<Setup<M>, Refused<M>>
@@ -71,16 +83,6 @@ impl<M: SetMap> Setup<M> {
         ensures { result ≡ self.now.settings.processors * 3 }
     {
         self.settings.processors as usize * 3
-    }
-
-    // Where the frames of processor p's set of the block begin.
-    pub(super) fn set_start(&self, p: u32, block: Block) -> usize
-        requires { (1 ≤ p) × (p ≤ self.now.settings.processors) }
-        ensures value { result ≡ set_start (M.meaning self.now.map) self.now.settings p (set_of (M.meaning self.now.map) self.now.settings block) }
-        ensures within { result + self.now.settings.ways ≤ frames_needed (M.meaning self.now.map) self.now.settings }
-    {
-        (p as usize - 1) * cache_frames(&self.map, self.settings)
-            + self.map.set(self.settings.level, block.number) as usize * self.settings.ways as usize
     }
 
     // Refuses tables that are too short.
