@@ -35,7 +35,7 @@ among_first : (q : Block) (xs : List Block) → among q xs ≡ nat_lt (first q x
 among_first q [] = refl
 among_first q (x ∷ xs) = let ih = among_first q xs in grind arith
 
-pub among_position : (q : Block) (xs : List Block) → is_some (position (λ b. same b q) xs) ≡ among q xs
+pub among_position : (q : Block) (xs : List Block) → among q xs ≡ is_some (position (λ b. same b q) xs)
 among_position q xs = let f = among_first q xs in grind arith
 
 pub place_or_length : (q : Block) (xs : List Block) → unwrap_or (position (λ b. same b q) xs) (length xs) ≡ place_of q xs

@@ -29,6 +29,7 @@ pub(super) fn place(blocks: &[Block], q: Block) -> Option<usize>
 }
 
 // Whether q is among some blocks.
+#[tactic(auto, using(crate::proofs::Blocks::among_position))]
 pub fn has(blocks: &[Block], q: Block) -> bool
     ensures { result ≡ among q blocks.now }
 {

@@ -20,6 +20,7 @@ pub struct Block {
 
 impl Block {
     // The block of an address, where a block has 2^shift addresses.
+    #[tactic(auto, using(crate::proofs::Blocks::shifted))]
     pub fn of(address: u32, shift: u32) -> Block
         ensures { result ≡ block_of shift address }
     {
