@@ -40,14 +40,10 @@ pub has-less : (v w : Levels) (i : ℕ) → has (less v w) i ≡ (has v i && not
 unfolding has less
 has-less v w i = rw (xor_shr, and_shr, without_odd) (odd_without (v.bits / 2 ^ i) (w.bits / 2 ^ i))
 
-pub less_is : (v w : Levels) → v.bits < 2 ^ 32 → w.bits < 2 ^ 32 → ◌≡◌ {A = Levels} (record { bits = bit_and v.bits (4294967295 - w.bits) }) (less v w)
-unfolding less
-less_is v w h k =
-    let a = v.bits in
-    let b = w.bits in
+pub less_bits : (a b : ℕ) → a < 2 ^ 32 → b < 2 ^ 32 → bit_and a (4294967295 - b) ≡ bit_xor a (bit_and a b)
+less_bits a b h k =
     let c : bit_and a (bit_and a b) ≡ bit_and a b = sym (and_assoc b a a) ∙ ap (λ n. bit_and n b) (and_self a) in
-    let n : bit_and a (4294967295 - b) ≡ bit_xor a (bit_and a b) = omega (arith, and-not 32 b a k h, xor_add_and a (bit_and a b), and_comm a b, and_comm a (4294967295 - b)) in
-    ap (λ k. record { bits = k }) n
+    omega (arith, and-not 32 b a k h, xor_add_and a (bit_and a b), and_comm a b, and_comm a (4294967295 - b))
 
 pub has_none : (v : Levels) (i : ℕ) → v.bits ≡ 0 → has v i ≡ false
 unfolding has

@@ -41,6 +41,7 @@ impl Levels {
         level < 32 && (self.bits >> level) % 2 == 1
     }
 
+    #[tactic(auto, unfolding(crate::specs::Levels::both))]
     pub fn both(self, other: Levels) -> Levels
         ensures value { result ≡ both self other }
         ensures levels { (i : ℕ) → has result i ≡ (has self i && has other i) }
@@ -50,6 +51,7 @@ impl Levels {
         }
     }
 
+    #[tactic(auto, unfolding(crate::specs::Levels::either))]
     pub fn either(self, other: Levels) -> Levels
         ensures value { result ≡ either self other }
         ensures levels { (i : ℕ) → has result i ≡ (has self i || has other i) }
@@ -60,6 +62,7 @@ impl Levels {
     }
 
     // The levels that `other` lacks.
+    #[tactic(auto, using(crate::proofs::Bits::less_bits), unfolding(crate::specs::Levels::less))]
     pub fn less(self, other: Levels) -> Levels
         ensures value { result ≡ less self other }
         ensures levels { (i : ℕ) → has result i ≡ (has self i && not (has other i)) }

@@ -32,10 +32,10 @@ module _ (left bytes line rest : List ℕ) (n i n' : ℕ) (lent : bytes ≡ left
   pub accepted : (x : Reference) → line_of (pieces 44 line) ≡ Ok x → Given (text_items left) n (Ok (Some x)) (text_items rest) n'
   accepted x read = rw (← lent, items_more bytes line rest parted, read) (refl, refl, counted ∙ numbered)
 
-  pub refused : (e : LineFault) → LineRead i (pieces 44 line) (Err e) → Given (text_items left) n (Err (told e)) (text_items rest) n'
-  refused (Fields k) read = rw (← lent, items_more bytes line rest parted, read.0, read.1, numbered) (refl, refl, counted ∙ numbered)
-  refused (Field e) read = rw (← lent, items_more bytes line rest parted, read.0.0, read.0.1, numbered) (refl, refl, counted ∙ numbered)
-  refused (CutOff k) read = absurd read
+  pub refused : (k : ℕ) → k ≡ i → (e : LineFault) → LineRead k (pieces 44 line) (Err e) → Given (text_items left) n (Err (told e)) (text_items rest) n'
+  refused k same (Fields j) read = rw (← lent, items_more bytes line rest parted, read.0, read.1, same, numbered) (refl, refl, counted ∙ numbered)
+  refused k same (Field e) read = rw (← lent, items_more bytes line rest parted, read.0.0, read.0.1, same, numbered) (refl, refl, counted ∙ numbered)
+  refused k same (CutOff j) read = absurd read
 
 -- each item takes a byte or more
 items_onto : (b : ℕ) (ls : List (List ℕ)) → length (line_items (onto_first b ls)) ≤ 1 + length (line_items ls)

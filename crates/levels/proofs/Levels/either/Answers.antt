@@ -1,8 +1,8 @@
-use Rattle.std.proofs.Common.{refl}
-use Rattle.levels.specs.Levels.{either}
+use Rattle.std.proofs.Common.{ℕ, ap, ◌∙◌, arith}
+use Rattle.levels.specs.Levels.{has, either}
 use Rattle.levels.proofs.Bits.{has_either}
 use Rattle.levels.proofs.Levels.either.Goals as goal
 
-pub returns : goal.returns
+pub returns-clause-levels : goal.returns-clause-levels
 unfolding either
-returns c = record { value = refl; levels = λ i. has_either c.args.self c.args.other i }
+returns-clause-levels c i = ap (λ (n : ℕ). has (record { bits = n }) i) (omega arith) ∙ has_either c.args.self c.args.other i

@@ -1,9 +1,8 @@
-use Rattle.std.proofs.Common.{ap, ◌∙◌, rules}
-use Rattle.levels.specs.Levels.{has}
-use Rattle.levels.proofs.Bits.{has-less, less_is}
+use Rattle.std.proofs.Common.{ℕ, ap, ◌∙◌, arith}
+use Rattle.levels.specs.Levels.{has, less}
+use Rattle.levels.proofs.Bits.{has-less, less_bits}
 use Rattle.levels.proofs.Levels.less.Goals as goal
 
-pub returns : goal.returns
-returns c =
-    let e = less_is c.args.self c.args.other (search rules) (search rules) in
-    record { value = e; levels = λ i. ap (λ v. has v i) e ∙ has-less c.args.self c.args.other i }
+pub returns-clause-levels : goal.returns-clause-levels
+unfolding less
+returns-clause-levels c i = ap (λ (n : ℕ). has (record { bits = n }) i) (omega (arith, less_bits c.args.self.bits c.args.other.bits (omega arith) (omega arith))) ∙ has-less c.args.self c.args.other i

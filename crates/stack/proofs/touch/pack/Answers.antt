@@ -11,4 +11,5 @@ bounds-es-walk g c =
 pub returns-then-leaves_marker : goal.returns-then-leaves_marker
 returns-then-leaves_marker g c =
     let m = g.M.SetMap.meaning c.args.map.now in
-    over-marker m c.args.q c.args.es.now _ c.requires _ _ c.leaves_marker.ensures c.thin_above.ensures c.if-leaves_marker.true
+    let e = over-marker m c.args.q c.args.es.now _ c.requires _ _ c.leaves_marker.ensures c.thin_above.ensures c.if-leaves_marker.true in
+    grind arith

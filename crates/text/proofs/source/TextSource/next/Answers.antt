@@ -1,4 +1,4 @@
-use Rattle.std.proofs.Common.{ℕ, List, Bor, Option, Some, None, subst}
+use Rattle.std.proofs.Common.{ℕ, List, Bor, Option, Some, None, subst, arith}
 use Rattle.std.proofs.lemmas.Result.{err_from_is_err_and}
 use Rattle.text.specs.Cuts.{Parted, Whole}
 use Rattle.text.proofs.Items.{accepted, refused}
@@ -14,7 +14,7 @@ returns-in_err-reference c =
     let bytes = c.in-Some.bytes.now in
     let cut = subst (Cut bytes) c.in_ok-line.ensures.ok_part c.split_line.ensures in
     let p = err_from_is_err_and c.from_residual-in_err-reference.result c.from_residual-in_err-reference.ensures.1 in
-    rw (p.1, p.2) (refused _ bytes c.in_ok-line.line.now c.in_ok-line.rest.now _ _ _ begun.1 begun.2 begun.4 cut.0 _ c.in_err-reference.ensures)
+    rw (p.1, p.2) (refused _ bytes c.in_ok-line.line.now c.in_ok-line.rest.now _ _ _ begun.1 begun.2 begun.4 cut.0 _ (omega arith) _ c.in_err-reference.ensures)
 
 pub returns : goal.returns
 returns c =
